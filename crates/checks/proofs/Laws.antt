@@ -1,0 +1,58 @@
+-- `firstFault` computes what `Decides` says; a table that finds no fault clears each of its checks; two tables in a row.
+-- Assumes nothing.
+use mathlib.Core.Path.{_≡_, refl}
+use mathlib.Core.Bool.{Bool, true, false, cond}
+use mathlib.Core.List.{List, [], _∷_, _++_}
+use Prim.Native.Nat.{ℕ, zero, suc}
+use native.Mathlib.Nat.{suc-ne-zero}
+use lib.Dec.{T, eqb, eqb·suc-zero}
+use Rattle.checks.specs.Checks.{Check, check, Decides, clear, hit, miss, firstFault}
+
+-- every table gives an answer
+pub decides : (checks : List Check) → Decides checks (firstFault checks)
+unfolding firstFault
+decides [] = clear
+decides (check true n ∷ checks) = hit refl
+decides (check false n ∷ checks) = miss refl (decides checks)
+
+-- and only one
+pub decided : {checks : List Check} {m : ℕ} → Decides checks m → m ≡ firstFault checks
+unfolding firstFault
+decided clear = refl
+decided (hit e) = rw e
+decided (miss e d) = rw e (decided d)
+
+-- the rest of a table, answered by a call of its own
+pub rest : {checks : List Check} {m : ℕ} → m ≡ firstFault checks → Decides checks m
+rest {checks} e = rw e (decides checks)
+
+-- whether the k-th check is at fault; past the end, none is
+abbrev pub faultAt : ℕ → List Check → Bool
+faultAt k [] = false
+faultAt zero (check b n ∷ checks) = b
+faultAt (suc k) (check b n ∷ checks) = faultAt k checks
+
+-- no check gives 0, the answer of a table with no fault
+abbrev pub numbered : List Check → Bool
+numbered [] = true
+numbered (check b zero ∷ checks) = false
+numbered (check b (suc n) ∷ checks) = numbered checks
+
+-- where the table finds no fault, no check is at fault
+pub passed : (k : ℕ) (checks : List Check) → T (numbered checks) → firstFault checks ≡ 0 → faultAt k checks ≡ false
+unfolding firstFault
+passed k [] p e = refl
+passed k (check true zero ∷ checks) p e = absurd p
+passed k (check true (suc n) ∷ checks) p e = absurd (suc-ne-zero n e)
+passed zero (check false n ∷ checks) p e = refl
+passed (suc k) (check false zero ∷ checks) p e = absurd p
+passed (suc k) (check false (suc n) ∷ checks) p e = passed k checks p e
+
+-- two tables in a row: the second answers where the first finds no fault
+pub firstFault-append : (a b : List Check) → T (numbered a) → firstFault (a ++ b) ≡ cond (eqb (firstFault a) 0) (firstFault b) (firstFault a)
+unfolding firstFault
+firstFault-append [] b p = refl
+firstFault-append (check true zero ∷ a) b p = absurd p
+firstFault-append (check true (suc n) ∷ a) b p = rw (eqb·suc-zero n)
+firstFault-append (check false zero ∷ a) b p = absurd p
+firstFault-append (check false (suc n) ∷ a) b p = firstFault-append a b p

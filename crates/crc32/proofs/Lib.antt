@@ -1,0 +1,4 @@
+pub mod Xor
+pub mod Shift
+pub mod Laws
+pub mod Vectors
