@@ -1,0 +1,12 @@
+// Runs vectors from outside against the library and prints what it answers; the file stdout has what it must print.
+mod sums;
+mod texts;
+
+fn main() {
+    sums::all();
+    texts::well_formed();
+    texts::at_the_edges();
+    texts::too_long();
+    texts::surrogates_and_above();
+    texts::cut_and_stray();
+}
