@@ -1,11 +1,13 @@
 -- `firstFault` computes what `Decides` says; a table that finds no fault clears each of its checks; two tables in a row.
 -- Assumes nothing.
-use mathlib.Core.Path.{_≡_, refl}
+use mathlib.Core.Path.{_≡_, refl, _∙_}
 use mathlib.Core.Bool.{Bool, true, false, cond}
 use mathlib.Core.List.{List, [], _∷_, _++_}
 use Prim.Native.Nat.{ℕ, zero, suc}
 use native.Mathlib.Nat.{suc-ne-zero}
 use lib.Dec.{T, eqb, eqb·suc-zero}
+use lib.ListN.{take, drop}
+use lib.Seq.{take-nil, drop-nil}
 use Rattle.checks.specs.Checks.{Check, check, Decides, clear, hit, miss, firstFault}
 
 -- every table gives an answer
@@ -48,6 +50,17 @@ passed zero (check false n ∷ checks) p e = refl
 passed (suc k) (check false zero ∷ checks) p e = absurd p
 passed (suc k) (check false (suc n) ∷ checks) p e = passed k checks p e
 
+-- and no part of the table finds one
+pub passed-part : (k n : ℕ) (checks : List Check) → T (numbered checks) → firstFault checks ≡ 0 → firstFault (take n (drop k checks)) ≡ 0
+unfolding firstFault
+passed-part k n [] p e = rw (drop-nil, take-nil)
+passed-part k n (check true zero ∷ checks) p e = absurd p
+passed-part k n (check true (suc m) ∷ checks) p e = absurd (suc-ne-zero m e)
+passed-part k n (check false zero ∷ checks) p e = absurd p
+passed-part zero zero (check false (suc m) ∷ checks) p e = refl
+passed-part zero (suc n) (check false (suc m) ∷ checks) p e = passed-part zero n checks p e
+passed-part (suc k) n (check false (suc m) ∷ checks) p e = passed-part k n checks p e
+
 -- two tables in a row: the second answers where the first finds no fault
 pub firstFault-append : (a b : List Check) → T (numbered a) → firstFault (a ++ b) ≡ cond (eqb (firstFault a) 0) (firstFault b) (firstFault a)
 unfolding firstFault
@@ -56,3 +69,6 @@ firstFault-append (check true zero ∷ a) b p = absurd p
 firstFault-append (check true (suc n) ∷ a) b p = rw (eqb·suc-zero n)
 firstFault-append (check false zero ∷ a) b p = absurd p
 firstFault-append (check false (suc n) ∷ a) b p = firstFault-append a b p
+
+pub none-append : (a b : List Check) → T (numbered a) → firstFault a ≡ 0 → firstFault b ≡ 0 → firstFault (a ++ b) ≡ 0
+none-append a b p e f = firstFault-append a b p ∙ rw (e, f)

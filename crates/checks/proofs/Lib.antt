@@ -1,2 +1,4 @@
 pub mod Laws
 pub mod Tests
+pub mod Scan
+pub mod First

@@ -1,6 +1,7 @@
 // Runs vectors from outside against the library and prints what it answers; the file stdout has what it must print.
 mod sums;
 mod texts;
+mod volumes;
 
 fn main() {
     sums::all();
@@ -9,4 +10,5 @@ fn main() {
     texts::too_long();
     texts::surrogates_and_above();
     texts::cut_and_stray();
+    volumes::all();
 }

@@ -1,0 +1,198 @@
+-- One block, once for all kinds: the checks of its kind find no fault exactly where the image of a block that keeps the rules
+-- stands, and that block is the one shown. Assumes nothing.
+use Prim.Native.Nat.{ℕ, suc, _+_, _-_, _≤_, _<_}
+use mathlib.Core.Path.{_≡_, refl, sym, ap, _∙_}
+use mathlib.Core.Bool.{false}
+use mathlib.Core.List.{List, [], _∷_, _++_, append-assoc}
+use native.Mathlib.Numerals.{add-one}
+use native.Mathlib.Omega.{arith}
+use lib.ListN.{length, drop, getD, length-append, length-drop}
+use lib.Seq.{drop-cons}
+use borrow.Author.Tests.{ltb-false, eqb-true, not-false, le-ltb}
+use Rattle.number.specs.Number.{Bytes, le, leBytes, part, numberAt}
+use Rattle.number.proofs.Halves.{read-one}
+use Rattle.number.proofs.Parts.{length-part, bytes-part, part-add, part-at, drop-past}
+use Rattle.checks.specs.Checks.{firstFault, clear, miss}
+use Rattle.checks.proofs.Laws.{passed, decided}
+use Rattle.checks.proofs.Tests.{eq-neb}
+use Rattle.crc32.specs.Crc.{crc}
+use Rattle.format.specs.Layout.{total, laid, sealed}
+use Rattle.format.specs.Blocks.{Kind, idOf, widths, Block, kindOf, fields, body, image, KindRules, BlockRules}
+use Rattle.format.specs.Readings.{timeOf}
+use Rattle.format.proofs.Fields.{length-laid}
+use Rattle.format.proofs.Seal.{length-sealed, seal-part, part-sealed}
+use Rattle.block.specs.Fields.{idAt, before, bodyLength, bodyEnd}
+use Rattle.block.specs.Order.{sumWrong, checksumWrong, kindOrder}
+use Rattle.block.specs.Shown.{blockOf, shown, timeOfBlock}
+use Rattle.block.specs.declared.Block.{Block as Decoded}
+use Rattle.block.specs.declared.Block.the-variants.{Inode, Link, Unlink, Xattr, RemovedXattr, Data, Rename, Table}
+use Rattle.block.proofs.Standing.{fieldsAt, bodyAt, fields-fit, fields-laid, fields-stand}
+use Rattle.block.proofs.KindSound.{Shows, shows, Passes, kind-rules}
+use Rattle.block.proofs.KindComplete.{Accepts, accepts}
+
+-- The CRC check, by how many bytes the CRC covers.
+
+module _ (volume : List ℕ) (offset len end : ℕ) (e : end ≡ offset + len) where
+  covers : end - offset ≡ len
+  covers = omega arith
+
+  sum-right : sumWrong volume offset end ≡ false → numberAt volume (offset + len) 4 ≡ crc (part volume offset len)
+  unfolding sumWrong
+  sum-right s = rw (covers, e) at (eqb-true (numberAt volume end 4) (crc (part volume offset (end - offset))) (not-false _ s))
+
+  right-sum : numberAt volume (offset + len) 4 ≡ crc (part volume offset len) → sumWrong volume offset end ≡ false
+  unfolding sumWrong
+  right-sum s = rw (covers, e) (eq-neb (numberAt volume (offset + len) 4) (crc (part volume offset len)) s)
+
+-- From the checks to the image.
+
+-- a block that is shown has the image of the fields and variable parts that stand there, and keeps the rules
+module _ (kind : Kind) (volume : List ℕ) (offset : ℕ) (block : Block) (s : Shows kind volume offset block) where
+  shown-image : image block ≡ sealed (idOf kind ∷ laid (widths kind) (fieldsAt kind volume offset) ++ bodyAt kind volume offset)
+  unfolding image
+  shown-image = rw (s .same-kind, s .same-fields, s .same-body)
+
+  shown-keeps : Bytes volume → KindRules block → BlockRules block
+  shown-keeps b r =
+      record {
+        fit = rw (s .same-kind, s .same-fields) (fields-fit kind volume offset b);
+        bytes = rw (s .same-body) (bytes-part volume (offset + before kind) (bodyLength kind volume offset) b);
+        rules = r;
+      }
+
+-- how many bytes of a block stand before its CRC
+abbrev covered : Kind → (volume : List ℕ) (offset : ℕ) → ℕ
+covered kind volume offset = before kind + bodyLength kind volume offset
+
+-- the block of a kind stands at an offset
+pub record Stands (kind : Kind) (volume : List ℕ) (offset : ℕ) (block : Block) : Type 0 where
+  pub same-kind : kindOf block ≡ kind
+  pub keeps : BlockRules block
+  pub end : bodyEnd kind volume offset + 4 ≡ offset + length (image block)
+  pub whole : offset + length (image block) ≤ length volume
+  pub same : part volume offset (length (image block)) ≡ image block
+
+module _ (kind : Kind) (volume : List ℕ) (offset : ℕ) (b : Bytes volume) (id : idAt volume offset ≡ idOf kind) where
+  -- the bytes before the CRC, by the layout
+  content : offset + before kind ≤ length volume
+      → part volume offset (covered kind volume offset)
+      ≡ idOf kind ∷ laid (widths kind) (fieldsAt kind volume offset) ++ bodyAt kind volume offset
+  content h =
+      let t : ℕ = total (widths kind) in
+      let n : ℕ = bodyLength kind volume offset in
+      let low : offset < length volume = omega arith in
+      let all : covered kind volume offset ≡ suc (t + n) = omega arith in
+      let next : suc offset + t ≡ offset + suc t = omega arith in
+      let first : getD volume offset 0 ≡ idOf kind = read-one volume offset low ∙ id in
+      rw (all, drop-cons volume offset 0 low, first, part-add volume (suc offset) t n, next, ← fields-laid kind volume offset b h)
+
+  pub block-sound : firstFault (kindOrder kind volume offset) ≡ 0 → Stands kind volume offset (shown volume (blockOf kind volume offset))
+  block-sound e =
+      let order = kindOrder kind volume offset in
+      let n : ℕ = covered kind volume offset in
+      let block : Block = shown volume (blockOf kind volume offset) in
+      let whole : bodyEnd kind volume offset + 4 ≤ length volume = ltb-false _ _ (passed 2 order tt e) in
+      let within : bodyEnd kind volume offset ≤ length volume = omega arith in
+      let s : Shows kind volume offset block = shows kind volume offset b within in
+      let sum = sum-right volume offset n (bodyEnd kind volume offset) (omega arith) (passed 3 order tt e) in
+      let same : part volume offset (n + 4) ≡ image block
+      = sym (seal-part volume offset n b (omega arith) sum) ∙ ap sealed (content (omega arith)) ∙ sym (shown-image kind volume offset block s) in
+      let len : length (image block) ≡ n + 4 = ap length (sym same) ∙ length-part volume offset (n + 4) (omega arith) in
+      let tests : Passes kind volume offset
+      = record {
+        few = passed 1 order tt e;
+        texts = passed 4 order tt e;
+        sound = passed 5 order tt e;
+        apart = passed 6 order tt e;
+        once = passed 7 order tt e;
+      } in
+      record {
+        same-kind = s .same-kind;
+        keeps = shown-keeps kind volume offset block s b (kind-rules kind volume offset b within tests);
+        end = rw len (omega arith);
+        whole = rw len (omega arith);
+        same = rw len same;
+      }
+
+-- From the image to the checks.
+
+-- an image is as long as its fixed fields, its variable parts and its CRC
+pub length-image : (block : Block) → BlockRules block → length (image block) ≡ before (kindOf block) + length (body block) + 4
+unfolding image
+length-image block keeps =
+    let fixed : List ℕ = laid (widths (kindOf block)) (fields block) in
+    length-sealed (idOf (kindOf block) ∷ fixed ++ body block)
+    ∙ omega (arith, length-append fixed (body block), length-laid (widths (kindOf block)) (fields block) (keeps .fit))
+
+-- a block is read at an offset
+pub record Reads (volume : List ℕ) (offset : ℕ) (block : Block) : Type 0 where
+  pub id : idAt volume offset ≡ idOf (kindOf block)
+  pub no-fault : firstFault (kindOrder (kindOf block) volume offset) ≡ 0
+  pub same : shown volume (blockOf (kindOf block) volume offset) ≡ block
+  pub end : bodyEnd (kindOf block) volume offset + 4 ≡ offset + length (image block)
+
+module _ (block : Block) (volume : List ℕ) (offset : ℕ) (rest : List ℕ) (keeps : BlockRules block) (e : drop offset volume ≡ image block ++ rest) where
+  -- where an image stands, so do its ID, its fixed fields and its variable parts
+  parts-stand : (idAt volume offset ≡ idOf (kindOf block)) × Accepts volume offset block
+  unfolding image sealed le
+  parts-stand =
+      let kind : Kind = kindOf block in
+      let fixed : List ℕ = laid (widths kind) (fields block) in
+      let after : List ℕ = leBytes 4 (crc (idOf kind ∷ fixed ++ body block)) ++ rest in
+      let t : ℕ = total (widths kind) in
+      let d0 : drop offset volume ≡ (idOf kind ∷ []) ++ (fixed ++ (body block ++ after)) = e ∙ simp append-assoc in
+      let d1 : drop (suc offset) volume ≡ fixed ++ (body block ++ after)
+      = rw (add-one offset) at (drop-past volume (idOf kind ∷ []) (fixed ++ (body block ++ after)) offset 1 d0 refl) in
+      let d2 : drop (suc offset + t) volume ≡ body block ++ after
+      = drop-past volume fixed (body block ++ after) (suc offset) t d1 (length-laid (widths kind) (fields block) (keeps .fit)) in
+      let next : suc offset + t ≡ offset + before kind = omega arith in
+      let values = fields-stand kind volume offset (fields block) (body block ++ after) (keeps .fit) d1 in (
+        ap le (part-at volume (idOf kind ∷ []) (fixed ++ (body block ++ after)) offset 1 d0 refl) ∙ omega arith,
+        accepts block volume offset after keeps values (rw next at d2),
+      )
+
+  pub block-complete : Reads volume offset block
+  unfolding image
+  block-complete =
+      let kind : Kind = kindOf block in
+      let bytes : List ℕ = idOf kind ∷ laid (widths kind) (fields block) ++ body block in
+      let p : Accepts volume offset block = parts-stand .1 in
+      let n : bodyLength kind volume offset ≡ length (body block) = p .body-length in
+      let i : length (image block) ≡ before kind + length (body block) + 4 = length-image block keeps in
+      let c : length (image block) ≡ length bytes + 4 = length-sealed bytes in
+      let l : length volume - offset ≡ length (image block) + length rest
+      = sym (length-drop offset volume) ∙ ap length e ∙ length-append (image block) rest in
+      let sum : checksumWrong kind volume offset ≡ false
+      = right-sum volume offset (length bytes) (bodyEnd kind volume offset) (omega arith)
+      (part-sealed volume bytes rest offset (length bytes) e refl) in
+      let t : Passes kind volume offset = p .tests in
+      record {
+        id = parts-stand .0;
+        no-fault =
+            sym (
+            decided (
+            miss (le-ltb (length volume) (offset + before kind) (omega arith))
+            (miss (t .few)
+            (miss (le-ltb (length volume) (bodyEnd kind volume offset + 4) (omega arith))
+            (miss sum
+            (miss (t .texts)
+            (miss (t .sound)
+            (miss (t .apart)
+            (miss (t .once) clear)))))))
+            )
+            );
+        same = p .same;
+        end = omega arith;
+      }
+
+-- a block and what it shows have the same time
+pub same-time : (volume : List ℕ) (block : Decoded) → timeOfBlock block ≡ timeOf (shown volume block)
+unfolding shown
+same-time volume (Inode b) = refl
+same-time volume (Link b) = refl
+same-time volume (Unlink b) = refl
+same-time volume (Xattr b) = refl
+same-time volume (RemovedXattr b) = refl
+same-time volume (Data b) = refl
+same-time volume (Rename b) = refl
+same-time volume (Table b) = refl

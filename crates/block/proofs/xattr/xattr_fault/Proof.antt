@@ -1,0 +1,65 @@
+-- After the fixed fields the table is the one that the end with its text answers.
+use borrow.Author.Needs.{needs}
+use Rattle.checks.proofs.Laws.{decided}
+use Rattle.checks.proofs.Tests.{walks}
+use Rattle.block.specs.Fields.{bodyLength}
+use Rattle.block.proofs.Faults.{xattr, named-answered}
+use Rattle.block.proofs.xattr.xattr_fault.Statement.{statement}
+use Rattle.block.proofs.xattr.xattr_fault.Tie as tie
+
+add-from : tie.Need-add-from
+add-from c = search needs
+
+returns : tie.Need-returns
+returns c = decided (search walks)
+
+add-read-u8 : tie.Need-add-read-u8
+add-read-u8 c = search needs
+
+read-u8-requires : tie.Need-read-u8-requires
+read-u8-requires c κs = search needs
+
+cast-n : tie.Need-cast-n
+cast-n c = search needs
+
+add-read-u16 : tie.Need-add-read-u16
+add-read-u16 c = search needs
+
+read-u16-requires : tie.Need-read-u16-requires
+read-u16-requires c κs = search needs
+
+cast-m : tie.Need-cast-m
+cast-m c = search needs
+
+add-text-fault : tie.Need-add-text-fault
+add-text-fault c = search needs
+
+text-fault-requires : tie.Need-text-fault-requires
+text-fault-requires c κs = search needs
+
+returns-2 : tie.Need-returns-2
+unfolding bodyLength
+returns-2 c =
+    let a = c .before .before .before .before .before .args in
+    named-answered
+    (a .volume .now)
+    (a .offset)
+    xattr
+    (c .before .before .before .if1 .left)
+    (rw (← c .before .before .read-u8 .ensures, ← c .before .read-u16 .ensures) (c .text-fault .ensures))
+
+pub xattr-fault-spec : {M : Type 1} → statement M
+xattr-fault-spec =
+    tie.close
+    (tie.spec
+    add-from
+    returns
+    add-read-u8
+    read-u8-requires
+    cast-n
+    add-read-u16
+    read-u16-requires
+    cast-m
+    add-text-fault
+    text-fault-requires
+    returns-2)

@@ -1,0 +1,46 @@
+// Data blocks: ID 1, time 8, n 8, payload n, CRC 4.
+use crate::Block;
+use crate::DataBlock;
+use crate::Decoded;
+use crate::Part;
+use crate::numbers::CUT_SHORT;
+use crate::seal::sealed_fault;
+ghost use mathlib.Core.Path.{_≡_};
+ghost use Prim.Native.Nat.{_+_, _≤_, _<_};
+ghost use lib.ListN.{length};
+ghost use Rattle.format.specs.Blocks.{dataBlock};
+ghost use Rattle.checks.specs.Checks.{firstFault};
+ghost use Rattle.block.specs.Order.{kindOrder};
+ghost use Rattle.block.specs.Shown.{decodedOf};
+ghost use Rattle.block.specs.Fields.{bodyEnd};
+
+// The first fault of the data block at `offset`.
+pub(crate) fn data_fault(volume: &[u8], offset: usize) -> u64
+    requires { ⌜ offset < length (now volume) ⌝ }
+    ensures { λ r. ⌜ r ≡ firstFault (kindOrder dataBlock (now (volume .entry)) offset) ⌝ }
+{
+    let from = offset + 17;
+    if volume.len() < from {
+        return CUT_SHORT;
+    }
+    sealed_fault(volume, offset, from, number::read_u64(volume, offset + 9))
+}
+
+// The data block at `offset`.
+pub(crate) fn decode_data(volume: &[u8], offset: usize) -> Decoded
+    requires { ⌜ bodyEnd dataBlock (now volume) offset + 4 ≤ length (now volume) ⌝ }
+    ensures { λ r. ⌜ r ≡ decodedOf dataBlock (now (volume .entry)) offset ⌝ }
+{
+    let n = number::read_u64(volume, offset + 9) as usize;
+    let data = DataBlock {
+        time: number::read_u64(volume, offset + 1),
+        payload: Part {
+            offset: offset + 17,
+            len: n,
+        },
+    };
+    Decoded {
+        block: Block::Data(data),
+        end: offset + 17 + n + 4,
+    }
+}

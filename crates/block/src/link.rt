@@ -1,0 +1,69 @@
+// Link and unlink blocks, which have one layout: ID 1, time 8, child 8, parent 8, n 2, name n, CRC 4.
+use crate::Block;
+use crate::Decoded;
+use crate::LinkBlock;
+use crate::Part;
+use crate::numbers::CUT_SHORT;
+use crate::text::text_fault;
+ghost use mathlib.Core.Path.{_≡_};
+ghost use Prim.Native.Nat.{_+_, _≤_, _<_};
+ghost use lib.ListN.{length};
+ghost use Rattle.format.specs.Blocks.{linkBlock, unlinkBlock};
+ghost use Rattle.checks.specs.Checks.{firstFault};
+ghost use Rattle.block.specs.Order.{kindOrder};
+ghost use Rattle.block.specs.Shown.{decodedOf};
+ghost use Rattle.block.specs.Fields.{bodyEnd};
+ghost use Rattle.block.specs.Parts.{linkFields};
+
+// The first fault of the link block at `offset`. An unlink block has the same checks.
+pub(crate) fn link_fault(volume: &[u8], offset: usize) -> u64
+    requires { ⌜ offset < length (now volume) ⌝ }
+    ensures { λ r. ⌜ r ≡ firstFault (kindOrder linkBlock (now (volume .entry)) offset) ⌝ }
+{
+    let from = offset + 27;
+    if volume.len() < from {
+        return CUT_SHORT;
+    }
+    let n = number::read_u16(volume, offset + 25) as usize;
+    text_fault(volume, offset, from, n, n)
+}
+
+// The fields of either block, with a name of `n` bytes.
+fn fields(volume: &[u8], offset: usize, n: usize) -> LinkBlock
+    requires { ⌜ offset + 27 ≤ length (now volume) ⌝ }
+    ensures { λ r. ⌜ r ≡ linkFields (now (volume .entry)) offset n ⌝ }
+{
+    LinkBlock {
+        time: number::read_u64(volume, offset + 1),
+        child: number::read_u64(volume, offset + 9),
+        parent: number::read_u64(volume, offset + 17),
+        name: Part {
+            offset: offset + 27,
+            len: n,
+        },
+    }
+}
+
+// The link block at `offset`.
+pub(crate) fn decode_link(volume: &[u8], offset: usize) -> Decoded
+    requires { ⌜ bodyEnd linkBlock (now volume) offset + 4 ≤ length (now volume) ⌝ }
+    ensures { λ r. ⌜ r ≡ decodedOf linkBlock (now (volume .entry)) offset ⌝ }
+{
+    let n = number::read_u16(volume, offset + 25) as usize;
+    Decoded {
+        block: Block::Link(fields(volume, offset, n)),
+        end: offset + 27 + n + 4,
+    }
+}
+
+// The unlink block at `offset`.
+pub(crate) fn decode_unlink(volume: &[u8], offset: usize) -> Decoded
+    requires { ⌜ bodyEnd unlinkBlock (now volume) offset + 4 ≤ length (now volume) ⌝ }
+    ensures { λ r. ⌜ r ≡ decodedOf unlinkBlock (now (volume .entry)) offset ⌝ }
+{
+    let n = number::read_u16(volume, offset + 25) as usize;
+    Decoded {
+        block: Block::Unlink(fields(volume, offset, n)),
+        end: offset + 27 + n + 4,
+    }
+}

@@ -1,0 +1,36 @@
+// The numbers that calls refuse with, each with its meaning, and the limits of a volume.
+
+// The volume has more bytes than are allowed.
+pub const TOO_LARGE: u64 = 1;
+// The bytes end before the header or the block does, or before the offset.
+pub const CUT_SHORT: u64 = 2;
+
+pub const MAGIC_WRONG: u64 = 3;
+// The version, the CRC algorithm or the hash algorithm is not 0.
+pub const VERSION_UNKNOWN: u64 = 4;
+
+pub const CHECKSUM_WRONG: u64 = 5;
+// Volume 0 has a previous hash.
+pub const HASH_NOT_ZERO: u64 = 6;
+
+pub const ID_UNKNOWN: u64 = 7;
+// The offset lies in the header, or a table is missing where it is due, or stands where it is not.
+pub const OUT_OF_PLACE: u64 = 8;
+// More extents or links than are allowed.
+pub const OVER_LIMIT: u64 = 9;
+// A name, a path or a link target is not UTF-8.
+pub const NOT_TEXT: u64 = 10;
+// Another rule on an inode's fields is broken.
+pub const RULE_BROKEN: u64 = 11;
+// Two extents of a file keep the same position.
+pub const RANGES_OVERLAP: u64 = 12;
+// Two links of a table have the same parent and the same name.
+pub const LINK_TWICE: u64 = 13;
+
+pub const TIME_NOT_GREATER: u64 = 14;
+
+// The most bytes that a volume may have.
+pub const VOLUME_LIMIT: usize = 16777216;
+
+// Blocks begin after the header.
+pub const HEADER_LEN: usize = 80;

@@ -1,0 +1,24 @@
+// Blocks whose variable parts begin with a text.
+use crate::numbers::NOT_TEXT;
+use crate::seal::sealed_fault;
+ghost use mathlib.Core.Path.{_≡_};
+ghost use Prim.Native.Nat.{_≤_};
+ghost use lib.ListN.{length};
+ghost use Rattle.checks.specs.Checks.{firstFault};
+ghost use Rattle.block.specs.Parts.{textOrder};
+
+// The first fault in the end of the block at `offset`, whose variable parts are `len` bytes from `from` on, of which
+// the first `text` are a text.
+pub(crate) fn text_fault(volume: &[u8], offset: usize, from: usize, text: usize, len: usize) -> u64
+    requires { ⌜ (offset ≤ from) × (from ≤ length (now volume)) × (text ≤ len) ⌝ }
+    ensures { λ r. ⌜ r ≡ firstFault (textOrder (now (volume .entry)) offset from text len) ⌝ }
+{
+    let fault = sealed_fault(volume, offset, from, len as u64);
+    if fault != 0 {
+        return fault;
+    }
+    if !utf8::is_text(&volume[from..from + text]) {
+        return NOT_TEXT;
+    }
+    0
+}

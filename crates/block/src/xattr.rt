@@ -1,0 +1,88 @@
+// Xattr blocks: ID 1, time 8, inode 8, n 1, m 2, name n, value m, CRC 4; removed ones have no m and no value.
+use crate::Block;
+use crate::Decoded;
+use crate::Part;
+use crate::RemovedXattrBlock;
+use crate::XattrBlock;
+use crate::numbers::CUT_SHORT;
+use crate::text::text_fault;
+ghost use mathlib.Core.Path.{_≡_};
+ghost use Prim.Native.Nat.{_+_, _≤_, _<_};
+ghost use lib.ListN.{length};
+ghost use Rattle.format.specs.Blocks.{xattrBlock, removedXattrBlock};
+ghost use Rattle.checks.specs.Checks.{firstFault};
+ghost use Rattle.block.specs.Order.{kindOrder};
+ghost use Rattle.block.specs.Shown.{decodedOf};
+ghost use Rattle.block.specs.Fields.{bodyEnd};
+
+// The first fault of the xattr block at `offset`. Its value is raw bytes.
+pub(crate) fn xattr_fault(volume: &[u8], offset: usize) -> u64
+    requires { ⌜ offset < length (now volume) ⌝ }
+    ensures { λ r. ⌜ r ≡ firstFault (kindOrder xattrBlock (now (volume .entry)) offset) ⌝ }
+{
+    let from = offset + 20;
+    if volume.len() < from {
+        return CUT_SHORT;
+    }
+    let n = number::read_u8(volume, offset + 17) as usize;
+    let m = number::read_u16(volume, offset + 18) as usize;
+    text_fault(volume, offset, from, n, n + m)
+}
+
+// The first fault of the removed xattr block at `offset`.
+pub(crate) fn removed_xattr_fault(volume: &[u8], offset: usize) -> u64
+    requires { ⌜ offset < length (now volume) ⌝ }
+    ensures { λ r. ⌜ r ≡ firstFault (kindOrder removedXattrBlock (now (volume .entry)) offset) ⌝ }
+{
+    let from = offset + 18;
+    if volume.len() < from {
+        return CUT_SHORT;
+    }
+    let n = number::read_u8(volume, offset + 17) as usize;
+    text_fault(volume, offset, from, n, n)
+}
+
+// The xattr block at `offset`.
+pub(crate) fn decode_xattr(volume: &[u8], offset: usize) -> Decoded
+    requires { ⌜ bodyEnd xattrBlock (now volume) offset + 4 ≤ length (now volume) ⌝ }
+    ensures { λ r. ⌜ r ≡ decodedOf xattrBlock (now (volume .entry)) offset ⌝ }
+{
+    let n = number::read_u8(volume, offset + 17) as usize;
+    let m = number::read_u16(volume, offset + 18) as usize;
+    let xattr = XattrBlock {
+        time: number::read_u64(volume, offset + 1),
+        number: number::read_u64(volume, offset + 9),
+        name: Part {
+            offset: offset + 20,
+            len: n,
+        },
+        value: Part {
+            offset: offset + 20 + n,
+            len: m,
+        },
+    };
+    Decoded {
+        block: Block::Xattr(xattr),
+        end: offset + 20 + (n + m) + 4,
+    }
+}
+
+// The removed xattr block at `offset`.
+pub(crate) fn decode_removed_xattr(volume: &[u8], offset: usize) -> Decoded
+    requires { ⌜ bodyEnd removedXattrBlock (now volume) offset + 4 ≤ length (now volume) ⌝ }
+    ensures { λ r. ⌜ r ≡ decodedOf removedXattrBlock (now (volume .entry)) offset ⌝ }
+{
+    let n = number::read_u8(volume, offset + 17) as usize;
+    let removed = RemovedXattrBlock {
+        time: number::read_u64(volume, offset + 1),
+        number: number::read_u64(volume, offset + 9),
+        name: Part {
+            offset: offset + 18,
+            len: n,
+        },
+    };
+    Decoded {
+        block: Block::RemovedXattr(removed),
+        end: offset + 18 + n + 4,
+    }
+}

@@ -1,0 +1,140 @@
+-- Demand 3 on reading holds: a volume's reading, the reader's calls and the check are each got from the others. Assumes nothing.
+use Prim.Native.Nat.{ℕ, suc, _≤_}
+use mathlib.Core.Path.{_≡_, sym, ap, ap₂, _∙_, subst}
+use mathlib.Core.List.{List, _++_}
+use native.Mathlib.Nat.{zero-add}
+use native.Mathlib.Omega.{arith}
+use lib.ListN.{length, length-append, take-append-drop}
+use Rattle.number.specs.Number.{Bytes}
+use Rattle.number.proofs.Parts.{drop-past}
+use Rattle.format.specs.Blocks.{Block}
+use Rattle.format.specs.Headers.{Header, headerImage}
+use Rattle.format.specs.Readings.{Reading, Keeps, images, volumeOf, ReadingOf, HasReading}
+use Rattle.volume.specs.Heading.{idOf, sequenceOf, previousOf, headerFault, firstMark, headerAnswer, partAnswer}
+use Rattle.volume.specs.Checking.{checkFrom, afterHeader, checkAnswer}
+use Rattle.volume.specs.declared.Bookmark.{Bookmark}
+use Rattle.volume.specs.declared.Accepted.{Accepted}
+use Rattle.volume.specs.declared.Header.{Header as VolumeHeader}
+use Rattle.volume.specs.declared.HeaderAnswer.{HeaderAnswer}
+use Rattle.volume.specs.declared.HeaderAnswer.the-variants as head
+use Rattle.volume.specs.declared.Verdict.the-variants as verdict
+use Rattle.volume.proofs.HeaderImage.{headerAt, HeaderStands, header-sound, length-header, HeaderShown, header-complete}
+use Rattle.volume.proofs.HeaderImage.{givenAt, HeaderAnswers, accepts, rejects, header-answers}
+use Rattle.claims.specs.Demand3Reading.{Calls, ReaderGives, IsAccepted, Demand3Reading}
+use Rattle.claims.proofs.Walk.{afterAll, runs-volume, volume-runs}
+use Rattle.claims.proofs.Reader.{Read, calls-sound, calls-complete, check-complete, check-ends, calls-same}
+
+-- an accepted header has no fault, and it is answered with what stands in it
+header-given : (volume : List ℕ) (given : VolumeHeader) → headerAnswer volume ≡ head.Accepted given
+    → (headerFault volume ≡ 0) × (givenAt volume ≡ given)
+header-given volume given = go (header-answers volume)
+  where
+    go : {a : HeaderAnswer} → HeaderAnswers volume a → a ≡ head.Accepted given
+        → (headerFault volume ≡ 0) × (givenAt volume ≡ given)
+    go (accepts f) e = (f, cc)
+    go (rejects f) e = let z : _≡_ {A = ℕ} 0 1 = cc in absurd (omega arith)
+
+-- what the reader gives is the header that stands there, and the blocks of the calls from the bookmark after it
+record Given (volume : List ℕ) (reading : Reading) (end : Bookmark) : Type 0 where
+  no-fault : headerFault volume ≡ 0
+  same-header : headerAt volume ≡ reading .header
+  calls : Calls volume (firstMark (sequenceOf volume)) (reading .blocks) end
+
+given : (volume : List ℕ) (reading : Reading) (end : Bookmark) → ReaderGives volume reading end → Given volume reading end
+unfolding partAnswer
+given volume reading end g =
+    let h = header-given volume _ (g .header) in
+    let sequence : sequenceOf volume ≡ reading .header .sequence = ap (λ a. a .sequence) (h .1) in
+    let mark : firstMark (sequenceOf volume) ≡ g .first = ap (λ a. a .next) (h .1) in
+    let id : idOf volume ≡ reading .header .id = rw (h .0) at (g .id) in
+    let previous : previousOf volume ≡ reading .header .previous = rw (h .0) at (g .previous) in
+    record {
+      no-fault = h .0;
+      same-header = λ i. record { id = id i; sequence = sequence i; previous = previous i };
+      calls = rw mark (g .blocks);
+    }
+
+-- blocks that the calls give after an accepted header, with the header that stands there, are a reading
+header-and-calls : (volume : List ℕ) (blocks : List Block) (end : Bookmark) → Bytes volume → headerFault volume ≡ 0
+    → Calls volume (firstMark (sequenceOf volume)) blocks end
+    → ReadingOf volume (record { header = headerAt volume; blocks = blocks })
+unfolding volumeOf
+header-and-calls volume blocks end b f calls =
+    let h : HeaderStands volume = header-sound volume b f in
+    let r : Read volume (firstMark (sequenceOf volume)) blocks = calls-sound b calls in
+    let k = runs-volume (sequenceOf volume) blocks (r .runs) in
+    record {
+      keeps = record { header = h .rules; each = k .0; table = k .1; times = k .2 };
+      bytes = ap₂ _++_ (sym (h .image)) (sym (r .same)) ∙ take-append-drop 80 volume;
+    }
+
+-- what the reader gives is a reading
+gives-reading : (volume : List ℕ) (reading : Reading) (end : Bookmark) → Bytes volume → ReaderGives volume reading end
+    → ReadingOf volume reading
+gives-reading volume reading end b g =
+    let h : Given volume reading end = given volume reading end g in
+    subst (λ header. ReadingOf volume (record { header = header; blocks = reading .blocks })) (h .same-header)
+    (header-and-calls volume (reading .blocks) end b (h .no-fault) (h .calls))
+
+-- and a reading is what it gives
+reading-gives : (volume : List ℕ) (reading : Reading) → length volume ≤ 16777216 → ReadingOf volume reading
+    → ReaderGives volume reading (afterAll (firstMark (reading .header .sequence)) (reading .blocks))
+unfolding volumeOf headerAnswer partAnswer
+reading-gives volume reading small r =
+    let header : Header = reading .header in
+    let k : Keeps reading = r .keeps in
+    let e : volume ≡ headerImage header ++ images (reading .blocks) = sym (r .bytes) in
+    let h : HeaderShown volume header = header-complete volume header (images (reading .blocks)) (k .header) small e in
+    let s : sequenceOf volume ≡ header .sequence = ap (λ a. a .sequence) (h .shown) in
+    let l : length (headerImage header) ≡ 80 = length-header header (k .header) in
+    let long : 80 ≤ length volume
+    = omega (arith, ap length e ∙ length-append (headerImage header) (images (reading .blocks))) in
+    record {
+      first = firstMark (header .sequence);
+      header = rw (h .no-fault, s);
+      id = rw (h .no-fault) (ap (λ a. a .id) (h .shown));
+      previous = rw (h .no-fault) (ap (λ a. a .previous) (h .shown));
+      blocks =
+          calls-complete volume (firstMark (header .sequence)) (reading .blocks) small (omega arith) long
+          (volume-runs (header .sequence) (reading .blocks) (k .each, k .table, k .times))
+          (drop-past volume (headerImage header) (images (reading .blocks)) 0 80 e l);
+    }
+
+-- the check counts what the reader gives
+check-answers : (volume : List ℕ) (reading : Reading) (end : Bookmark) → ReaderGives volume reading end
+    → checkAnswer volume
+    ≡ verdict.Accepted (record { sequence = reading .header .sequence; blocks = length (reading .blocks); end = end })
+unfolding checkAnswer afterHeader
+check-answers volume reading end g =
+    rw (g .header, ← zero-add (length (reading .blocks))) (check-complete (reading .header .sequence) 0 (g .blocks))
+
+-- where the check accepts, the reader comes to "end", so there is a reading
+accepted-reading : (volume : List ℕ) → Bytes volume → IsAccepted volume → HasReading volume
+unfolding checkAnswer afterHeader checkFrom
+accepted-reading volume b a = go (header-answers volume) (a .1)
+  where
+    go : {h : HeaderAnswer} → HeaderAnswers volume h → afterHeader volume h ≡ verdict.Accepted (a .0) → HasReading volume
+    go (accepts f) e =
+        let c = check-ends (suc (length volume)) volume (sequenceOf volume) (firstMark (sequenceOf volume)) 0 (a .0) e in
+        (record { header = headerAt volume; blocks = c .0 }, header-and-calls volume (c .0) (a .0 .end) b f (c .1))
+    go (rejects f) e = let z : _≡_ {A = ℕ} 0 1 = cc in absurd (omega arith)
+
+-- both readings are what the reader gives
+one-reading : (volume : List ℕ) → length volume ≤ 16777216 → (a b : Reading) → ReadingOf volume a → ReadingOf volume b → a ≡ b
+one-reading volume small a b p q =
+    let g = given volume a _ (reading-gives volume a small p) in
+    let h = given volume b _ (reading-gives volume b small q) in
+    let header : a .header ≡ b .header = sym (g .same-header) ∙ h .same-header in
+    let blocks : a .blocks ≡ b .blocks = calls-same (g .calls) (h .calls) in
+    λ i. record { header = header i; blocks = blocks i }
+
+pub demand-3-reading-holds : Demand3Reading
+demand-3-reading-holds volume b small =
+    record {
+      accepted-iff-it-has-a-reading =
+          (accepted-reading volume b, λ r. (_, check-answers volume (r .0) _ (reading-gives volume (r .0) small (r .1))));
+      one-reading = one-reading volume small;
+      reader-gives-the-reading =
+          λ reading. ((λ r. (_, reading-gives volume reading small r)), λ g. gives-reading volume reading (g .0) b (g .1));
+      check-answers-for-the-reading = check-answers volume;
+    }

@@ -1,0 +1,3 @@
+pub mod Walk
+pub mod Reader
+pub mod Demand3Reading

@@ -1,0 +1,114 @@
+-- The reader called until "end" hands out exactly blocks that keep the rules and whose images stand there end to end, and the
+-- check counts them. Assumes nothing.
+use Prim.Native.Nat.{ℕ, zero, suc, _+_, _-_, _≤_}
+use mathlib.Core.Path.{_≡_, refl, sym, ap, ap₂, _∙_, subst}
+use mathlib.Core.List.{List, [], _∷_, _++_}
+use native.Mathlib.Nat.{add-zero}
+use native.Mathlib.Omega.{arith}
+use lib.ListN.{length, drop, length-append, length-drop}
+use lib.Seq.{drop-length}
+use Rattle.number.specs.Number.{Bytes}
+use Rattle.number.proofs.Parts.{drop-past}
+use Rattle.format.specs.Blocks.{Block, image}
+use Rattle.format.specs.Readings.{images}
+use Rattle.block.specs.Order.{volumeLimit}
+use Rattle.block.specs.Shown.{shown}
+use Rattle.volume.specs.Reading.{readAnswer}
+use Rattle.volume.specs.Checking.{judge, scan, checkFrom}
+use Rattle.volume.specs.declared.Bookmark.{Bookmark}
+use Rattle.volume.specs.declared.Found.{Found}
+use Rattle.volume.specs.declared.Accepted.{Accepted}
+use Rattle.volume.specs.declared.ReadAnswer.{ReadAnswer}
+use Rattle.volume.specs.declared.ReadAnswer.the-variants as read
+use Rattle.volume.specs.declared.Verdict.{Verdict}
+use Rattle.volume.specs.declared.Verdict.the-variants as verdict
+use Rattle.volume.proofs.Steps.{check-step}
+use Rattle.volume.proofs.OneCall.{after, HandedOut, read-sound, Hands, read-complete, AtEnd, end-sound, end-complete}
+use Rattle.claims.specs.Demand3Reading.{Calls, ended, handed}
+use Rattle.claims.proofs.Walk.{Runs, afterAll}
+
+-- what the calls tell of the blocks
+pub record Read (volume : List ℕ) (mark : Bookmark) (blocks : List Block) : Type 0 where
+  pub runs : Runs mark blocks
+  pub same : drop (mark .offset) volume ≡ images blocks
+
+pub calls-sound : {volume : List ℕ} {mark end : Bookmark} {blocks : List Block} → Bytes volume → Calls volume mark blocks end
+    → Read volume mark blocks
+unfolding images
+calls-sound {volume} {mark} b (ended e) =
+    let p : AtEnd volume mark = end-sound volume mark e in
+    record { runs = p .none-due; same = ap (λ (n : ℕ). drop n volume) (p .offset) ∙ drop-length volume }
+calls-sound {volume} {mark} b (handed {found = found} {blocks = blocks} e calls) =
+    let p : HandedOut volume mark found = read-sound volume mark found b e in
+    let next : found .next ≡ after mark (shown volume (found .block)) = p .next in
+    let others : Read volume (found .next) blocks = calls-sound b calls in
+    record {
+      runs = (p .allowed, rw next at (others .runs));
+      same = p .same ∙ ap (λ rest. image (shown volume (found .block)) ++ rest) (others .same);
+    }
+
+-- where such blocks stand to the end of the volume, the calls give them
+pub calls-complete : (volume : List ℕ) (mark : Bookmark) (blocks : List Block) → length volume ≤ volumeLimit
+    → 80 ≤ mark .offset → mark .offset ≤ length volume → Runs mark blocks → drop (mark .offset) volume ≡ images blocks
+    → Calls volume mark blocks (afterAll mark blocks)
+unfolding images
+calls-complete volume mark [] small base within runs e =
+    let offset : mark .offset ≡ length volume = omega (arith, length-drop (mark .offset) volume, ap length e) in
+    ended (end-complete volume mark (record { small = small; base = base; offset = offset; none-due = runs }))
+calls-complete volume mark (block ∷ blocks) small base within runs e =
+    let p : Hands volume mark block = read-complete volume mark block small base (runs .0) (images blocks) e in
+    let n : ℕ = length (image block) in
+    let l : length volume - mark .offset ≡ n + length (images blocks)
+    = sym (length-drop (mark .offset) volume) ∙ ap length e ∙ length-append (image block) (images blocks) in
+    let others : Calls volume (after mark block) blocks (afterAll (after mark block) blocks)
+    = calls-complete volume (after mark block) blocks small (omega arith) (omega arith) (runs .1)
+    (drop-past volume (image block) (images blocks) (mark .offset) n e refl) in
+    subst (λ b. Calls volume mark (b ∷ blocks) (afterAll (after mark block) blocks)) (p .same)
+    (handed (p .answer) (rw (p .next) others))
+
+-- where the reader comes to "end", the check from the same bookmark on accepts, and has counted the blocks
+pub check-complete : {volume : List ℕ} {mark end : Bookmark} {blocks : List Block} (sequence count : ℕ) → Calls volume mark blocks end
+    → checkFrom volume sequence mark count
+    ≡ verdict.Accepted (record { sequence = sequence; blocks = count + length blocks; end = end })
+unfolding judge
+check-complete {volume} {mark} sequence count (ended e) = check-step volume sequence mark count ∙ rw (e, add-zero count)
+check-complete {volume} {mark} sequence count (handed {blocks = blocks} e calls) =
+    let n : suc count + length blocks ≡ count + suc (length blocks) = omega arith in
+    check-step volume sequence mark count ∙ rw (e, ← n) (check-complete sequence (suc count) calls)
+
+-- where the check accepts, the reader comes to "end" at the check's end bookmark
+abbrev Ends : (volume : List ℕ) → Bookmark → Bookmark → Type 0
+Ends volume mark end = (blocks : List Block) × Calls volume mark blocks end
+
+judge-ends : (volume : List ℕ) (sequence : ℕ) (mark : Bookmark) (count : ℕ) (answer : Accepted) (onward : Bookmark → Verdict)
+    → ((next : Bookmark) → onward next ≡ verdict.Accepted answer → Ends volume next (answer .end))
+    → (a : ReadAnswer) → readAnswer volume mark ≡ a → judge sequence mark count onward a ≡ verdict.Accepted answer
+    → Ends volume mark (answer .end)
+unfolding judge
+judge-ends volume sequence mark count answer onward later read.End r e =
+    let end : mark ≡ answer .end = cc in
+    ([], subst (Calls volume mark []) end (ended r))
+judge-ends volume sequence mark count answer onward later (read.Found found) r e =
+    let others = later (found .next) e in
+    (shown volume (found .block) ∷ others .0, handed r (others .1))
+judge-ends volume sequence mark count answer onward later (read.Refused refusal) r e =
+    let z : _≡_ {A = ℕ} 0 1 = cc in absurd (omega arith)
+
+pub check-ends : (fuel : ℕ) (volume : List ℕ) (sequence : ℕ) (mark : Bookmark) (count : ℕ) (answer : Accepted)
+    → scan fuel volume sequence mark count ≡ verdict.Accepted answer → Ends volume mark (answer .end)
+unfolding scan
+check-ends zero volume sequence mark count answer e = let z : _≡_ {A = ℕ} 0 1 = cc in absurd (omega arith)
+check-ends (suc fuel) volume sequence mark count answer e =
+    judge-ends volume sequence mark count answer (λ next. scan fuel volume sequence next (suc count))
+    (λ next. check-ends fuel volume sequence next (suc count) answer) (readAnswer volume mark) refl e
+
+-- the calls are fixed by the volume and the bookmark
+pub calls-same : {volume : List ℕ} {mark end other-end : Bookmark} {blocks others : List Block}
+    → Calls volume mark blocks end → Calls volume mark others other-end → blocks ≡ others
+calls-same (ended e) (ended f) = refl
+calls-same (ended e) (handed f g) = let z : _≡_ {A = ℕ} 0 1 = cc in absurd (omega arith)
+calls-same (handed e c) (ended f) = let z : _≡_ {A = ℕ} 0 1 = cc in absurd (omega arith)
+calls-same {volume} (handed {end = end} {found = found} {blocks = blocks} e c) (handed {found = other} f d) =
+    let same : found ≡ other = cc in
+    ap₂ _∷_ (ap (λ a. shown volume (a .block)) same)
+    (calls-same (subst (λ a. Calls volume (a .next) blocks end) same c) d)

@@ -1,0 +1,63 @@
+-- Demand 3, what it says on reading: which volumes are accepted, and what the calls on an accepted volume answer.
+--
+-- `headerAnswer` is the answer of read_header, `partAnswer` of file_system_id and previous_hash, `readAnswer` of Bookmark::read
+-- and `checkAnswer` of check: these calls have the equations in their contracts. `HasReading` and `ReadingOf` are the format's.
+-- Proved in proofs/Demand3Reading.antt.
+use Prim.Native.Nat.{ℕ, _≤_}
+use mathlib.Core.Path.{_≡_}
+use mathlib.Core.Logic.{_↔_}
+use mathlib.Core.List.{List, [], _∷_}
+use lib.ListN.{length}
+use Rattle.number.specs.Number.{Bytes}
+use Rattle.format.specs.Blocks.{Block}
+use Rattle.format.specs.Readings.{Reading, ReadingOf, HasReading}
+use Rattle.block.specs.Shown.{shown}
+use Rattle.volume.specs.Heading.{headerAnswer, partAnswer}
+use Rattle.volume.specs.Reading.{readAnswer}
+use Rattle.volume.specs.Checking.{checkAnswer}
+use Rattle.volume.specs.declared.Bookmark.{Bookmark}
+use Rattle.volume.specs.declared.Found.{Found}
+use Rattle.volume.specs.declared.Accepted.{Accepted}
+use Rattle.volume.specs.declared.HeaderAnswer.the-variants as HeaderAnswer
+use Rattle.volume.specs.declared.ReadAnswer.the-variants as ReadAnswer
+use Rattle.volume.specs.declared.Verdict.the-variants as Verdict
+
+-- The reader is called at a bookmark, and then at each bookmark that it returns, until it answers "end". It hands out these
+-- blocks, in this order, and the last bookmark is the one that gets "end".
+pub data Calls (volume : List ℕ) : Bookmark → List Block → Bookmark → Type 0 where
+  ended : {mark : Bookmark} → readAnswer volume mark ≡ ReadAnswer.End → Calls volume mark [] mark
+  handed :
+      {mark end : Bookmark} {found : Found} {blocks : List Block}
+      → readAnswer volume mark ≡ ReadAnswer.Found found
+      → Calls volume (found .next) blocks end
+      → Calls volume mark (shown volume (found .block) ∷ blocks) end
+
+-- The reader is called from the header on until "end", and this is what it gives. `end` is the end bookmark.
+pub record ReaderGives (volume : List ℕ) (reading : Reading) (end : Bookmark) : Type 0 where
+  pub first : Bookmark
+  pub header : headerAnswer volume ≡ HeaderAnswer.Accepted (record { sequence = reading .header .sequence; next = first })
+  pub id : partAnswer volume 18 16 ≡ reading .header .id
+  pub previous : partAnswer volume 44 32 ≡ reading .header .previous
+  pub blocks : Calls volume first (reading .blocks) end
+
+-- The check accepts the volume.
+abbrev pub IsAccepted : (volume : List ℕ) → Type 0
+IsAccepted volume = (answer : Accepted) × (checkAnswer volume ≡ Verdict.Accepted answer)
+
+-- What is claimed of a volume.
+pub record ReadingClaim (volume : List ℕ) : Type 0 where
+  -- it is accepted if it has a reading, and only then
+  pub accepted-iff-it-has-a-reading : IsAccepted volume ↔ HasReading volume
+  -- no volume has two readings
+  pub one-reading : (a b : Reading) → ReadingOf volume a → ReadingOf volume b → a ≡ b
+  -- the reader gives the reading, block by block, and nothing that is not the reading
+  pub reader-gives-the-reading : (reading : Reading) → ReadingOf volume reading ↔ ((end : Bookmark) × ReaderGives volume reading end)
+  -- the check answers with the reading's sequence number, how many blocks it has, and the end bookmark
+  pub check-answers-for-the-reading :
+      (reading : Reading) (end : Bookmark)
+      → ReaderGives volume reading end
+      → checkAnswer volume ≡ Verdict.Accepted (record { sequence = reading .header .sequence; blocks = length (reading .blocks); end = end })
+
+-- Demand 3 on reading: all of this holds of every volume of at most 16,777,216 bytes.
+abbrev pub Demand3Reading : Type 0
+Demand3Reading = (volume : List ℕ) → Bytes volume → length volume ≤ 16777216 → ReadingClaim volume

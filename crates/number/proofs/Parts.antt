@@ -1,0 +1,45 @@
+-- The laws of `part`: its length, two parts in a row, and the part that stands at an offset. Assumes nothing.
+use Prim.Native.Nat.{ℕ, _+_, _^_, _≤_, _<_}
+use mathlib.Core.Path.{_≡_, sym, ap, _∙_}
+use mathlib.Core.List.{List, _++_}
+use native.Mathlib.Omega.{arith}
+use lib.ListN.{length, take, drop, length-drop, take-append-drop}
+use lib.Seq.{length-take-le, take-add, drop-drop, take-at, drop-at}
+use Rattle.number.specs.Number.{Bytes, le, leBytes, part, numberAt}
+use Rattle.number.proofs.Digits.{bytes-take, bytes-drop, length-leBytes, le-leBytes, leBytes-le}
+
+pub length-part : (bytes : List ℕ) (offset len : ℕ) → offset + len ≤ length bytes → length (part bytes offset len) ≡ len
+length-part bytes offset len h = length-take-le len (drop offset bytes) (omega (arith, length-drop offset bytes))
+
+pub bytes-part : (bytes : List ℕ) (offset len : ℕ) → Bytes bytes → Bytes (part bytes offset len)
+bytes-part bytes offset len b = bytes-take len (drop offset bytes) (bytes-drop offset bytes b)
+
+-- a part is two parts in a row
+pub part-add : (bytes : List ℕ) (offset m n : ℕ) → part bytes offset (m + n) ≡ part bytes offset m ++ part bytes (offset + m) n
+part-add bytes offset m n =
+    take-add m n (drop offset bytes) ∙ ap (λ rest. part bytes offset m ++ take n rest) (drop-drop m offset bytes)
+
+-- a part, and what stands after it
+pub drop-part : (bytes : List ℕ) (offset len : ℕ) → drop offset bytes ≡ part bytes offset len ++ drop (offset + len) bytes
+drop-part bytes offset len =
+    sym (take-append-drop len (drop offset bytes)) ∙ ap (λ rest. part bytes offset len ++ rest) (drop-drop len offset bytes)
+
+-- bytes that stand at an offset are the part there, and after them stands the rest
+module _ (bytes new rest : List ℕ) (offset len : ℕ) (e : drop offset bytes ≡ new ++ rest) (l : length new ≡ len) where
+  pub part-at : part bytes offset len ≡ new
+  part-at = ap (take len) e ∙ take-at new rest len l
+
+  pub drop-past : drop (offset + len) bytes ≡ rest
+  drop-past = sym (drop-drop len offset bytes) ∙ ap (drop len) e ∙ drop-at new rest len l
+
+-- the bytes of the number at an offset are the part there
+pub leBytes-numberAt : (bytes : List ℕ) (offset width : ℕ) → Bytes bytes → offset + width ≤ length bytes
+    → leBytes width (numberAt bytes offset width) ≡ part bytes offset width
+leBytes-numberAt bytes offset width b h =
+    rw (length-part bytes offset width h) at (leBytes-le (part bytes offset width) (bytes-part bytes offset width b))
+
+-- a number whose bytes stand at an offset is read there
+pub number-at : (bytes rest : List ℕ) (offset width value : ℕ) → drop offset bytes ≡ leBytes width value ++ rest
+    → value < 256 ^ width → numberAt bytes offset width ≡ value
+number-at bytes rest offset width value e h =
+    ap le (part-at bytes (leBytes width value) rest offset width e (length-leBytes width value)) ∙ le-leBytes width value h

@@ -1,0 +1,4 @@
+pub mod Cases
+pub mod Shift
+pub mod Halving
+pub mod Held

@@ -1,0 +1,4 @@
+pub mod Whole
+pub mod Steps
+pub mod HeaderImage
+pub mod OneCall

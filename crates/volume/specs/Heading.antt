@@ -1,0 +1,70 @@
+-- What reading a header answers.
+use Prim.Native.Nat.{ℕ, _+_}
+use mathlib.Core.Bool.{Bool, true, false, not, cond, _&&_, _||_}
+use mathlib.Core.List.{List, [], _∷_}
+use lib.Dec.{ltb, eqb}
+use lib.ListN.{length}
+use Rattle.number.specs.Number.{numberAt, part}
+use Rattle.number.specs.Same.{sameBytes}
+use Rattle.checks.specs.Checks.{Check, check, firstFault}
+use Rattle.format.specs.Headers.{magic, noHash}
+use Rattle.block.specs.Order.{volumeLimit, sumWrong}
+use Rattle.volume.specs.declared.LastTime.{LastTime}
+use Rattle.volume.specs.declared.LastTime.the-variants.{Never, At}
+use Rattle.volume.specs.declared.Bookmark.{Bookmark}
+use Rattle.volume.specs.declared.Refusal.{Refusal}
+use Rattle.volume.specs.declared.Header.{Header}
+use Rattle.volume.specs.declared.HeaderAnswer.{HeaderAnswer}
+use Rattle.volume.specs.declared.HeaderAnswer.the-variants.{Accepted, Refused}
+
+-- the fields of a header, where they stand
+abbrev pub idOf : (volume : List ℕ) → List ℕ
+idOf volume = part volume 18 16
+
+abbrev pub sequenceOf : (volume : List ℕ) → ℕ
+sequenceOf volume = numberAt volume 36 8
+
+abbrev pub previousOf : (volume : List ℕ) → List ℕ
+previousOf volume = part volume 44 32
+
+-- 6: volume 0 with a previous hash that is not 32 zero bytes
+abbrev pub hashWrong : (sequence : ℕ) (previous : List ℕ) → Bool
+hashWrong sequence previous = eqb sequence 0 && not (sameBytes previous noHash)
+
+-- the checks of the fields of a header: 3, 4 (version, CRC algorithm, hash algorithm), 5, 6
+abbrev pub fieldOrder : (volume : List ℕ) → List Check
+fieldOrder volume =
+    check (not (sameBytes (part volume 0 17) magic)) 3
+    ∷ check (not (eqb (numberAt volume 17 1) 0)) 4
+    ∷ check (not (eqb (numberAt volume 34 1) 0)) 4
+    ∷ check (not (eqb (numberAt volume 35 1) 0)) 4
+    ∷ check (sumWrong volume 0 76) 5
+    ∷ check (hashWrong (sequenceOf volume) (previousOf volume)) 6
+    ∷ []
+
+-- the checks of a header: 1, 2, and those of its fields
+abbrev pub headerOrder : (volume : List ℕ) → List Check
+headerOrder volume =
+    check (ltb volumeLimit (length volume)) 1
+    ∷ check (ltb (length volume) 80) 2
+    ∷ fieldOrder volume
+
+unfoldable pub headerFault : (volume : List ℕ) → ℕ
+headerFault volume = firstFault (headerOrder volume)
+
+-- after a header: the bookmark at 80 with no last time, and a table due exactly when the sequence number is above 0
+abbrev pub firstMark : (sequence : ℕ) → Bookmark
+firstMark sequence = record { offset = 80; due = ltb 0 sequence; last = Never }
+
+abbrev pub refusalOf : (number : ℕ) → Refusal
+refusalOf number = record { number = number }
+
+unfoldable pub headerAnswer : (volume : List ℕ) → HeaderAnswer
+headerAnswer volume =
+    cond (eqb (headerFault volume) 0)
+    (Accepted (record { sequence = sequenceOf volume; next = firstMark (sequenceOf volume) }))
+    (Refused (refusalOf (headerFault volume)))
+
+-- a part that a sound header hands out; nothing where it is refused
+unfoldable pub partAnswer : (volume : List ℕ) (offset len : ℕ) → List ℕ
+partAnswer volume offset len = cond (eqb (headerFault volume) 0) (part volume offset len) []

@@ -1,0 +1,65 @@
+-- What reading the block at a bookmark answers.
+use Prim.Native.Nat.{ℕ, _+_}
+use mathlib.Core.Bool.{Bool, true, false, not, cond, _&&_}
+use mathlib.Core.Option.{Option, none, some}
+use mathlib.Core.List.{List, [], _∷_, _++_}
+use lib.Dec.{leb, ltb, eqb}
+use lib.ListN.{length}
+use Rattle.checks.specs.Checks.{Check, check, firstFault}
+use Rattle.block.specs.Fields.{kindAt, bodyEnd}
+use Rattle.block.specs.Order.{volumeLimit, blockOrder}
+use Rattle.block.specs.Shown.{blockAt, timeOfBlock}
+use Rattle.volume.specs.Heading.{refusalOf}
+use Rattle.volume.specs.declared.LastTime.{LastTime}
+use Rattle.volume.specs.declared.LastTime.the-variants.{Never, At}
+use Rattle.volume.specs.declared.Bookmark.{Bookmark}
+use Rattle.volume.specs.declared.Found.{Found}
+use Rattle.volume.specs.declared.ReadAnswer.{ReadAnswer}
+use Rattle.volume.specs.declared.ReadAnswer.the-variants.{Found as Block, End, Refused}
+
+-- "end": where 1 and 8 (below 80) don't apply, the offset is the volume's length and no table is due
+unfoldable pub isEnd : (volume : List ℕ) → Bookmark → Bool
+isEnd volume mark =
+    leb (length volume) volumeLimit && (leb 80 (mark .offset) && (eqb (mark .offset) (length volume) && not (mark .due)))
+
+-- a time, if there is one
+abbrev pub asOption : LastTime → Option ℕ
+asOption Never = none
+asOption (At time) = some time
+
+-- the time rule: whether a time may follow the last one, if there is one
+unfoldable pub mayFollow : LastTime → (time : Option ℕ) → Bool
+mayFollow last none = true
+mayFollow Never (some time) = true
+mayFollow (At last) (some time) = ltb last time
+
+-- the last time once a block has been passed
+abbrev pub lastAfter : LastTime → (time : Option ℕ) → LastTime
+lastAfter last none = last
+lastAfter last (some time) = At time
+
+-- the checks of the block at a bookmark: the block's own, then 14
+abbrev pub readOrder : (volume : List ℕ) → Bookmark → List Check
+readOrder volume mark =
+    blockOrder volume (mark .offset) (mark .due)
+    ++ (check (not (mayFollow (mark .last) (timeOfBlock (blockAt volume (mark .offset))))) 14 ∷ [])
+
+unfoldable pub readFault : (volume : List ℕ) → Bookmark → ℕ
+readFault volume mark = firstFault (readOrder volume mark)
+
+-- the bookmark after a block that ends at an offset: no table is due, and the block's time is the last, if it has one
+abbrev pub markAfter : (end : ℕ) → LastTime → (time : Option ℕ) → Bookmark
+markAfter end last time = record { offset = end; due = false; last = lastAfter last time }
+
+-- the bookmark after the block at a bookmark
+abbrev pub nextMark : (volume : List ℕ) → Bookmark → Bookmark
+nextMark volume mark =
+    markAfter (bodyEnd (kindAt volume (mark .offset)) volume (mark .offset) + 4) (mark .last)
+    (timeOfBlock (blockAt volume (mark .offset)))
+
+unfoldable pub readAnswer : (volume : List ℕ) → Bookmark → ReadAnswer
+readAnswer volume mark =
+    cond (isEnd volume mark) End
+    (cond (eqb (readFault volume mark) 0)
+    (Block (record { block = blockAt volume (mark .offset); next = nextMark volume mark }))
+    (Refused (refusalOf (readFault volume mark))))

@@ -1,0 +1,54 @@
+// The whole-volume check: the header, and then block after block until the end or a refusal.
+use crate::Accepted;
+use crate::Bookmark;
+use crate::HeaderAnswer;
+use crate::ReadAnswer;
+use crate::Rejected;
+use crate::Verdict;
+use crate::heading::read_header;
+ghost use mathlib.Core.Path.{_≡_};
+ghost use Rattle.volume.specs.Checking.{checkFrom, checkAnswer};
+
+// The check from a bookmark on, with no block passed yet.
+fn check_from(volume: &[u8], sequence: u64, first: Bookmark) -> Verdict
+    ensures { λ r. ⌜ r ≡ checkFrom (now (volume .entry)) sequence first 0 ⌝ }
+{
+    let mut mark = first;
+    let mut blocks: u64 = 0;
+    loop {
+        match mark.read(volume) {
+            ReadAnswer::End => {
+                return Verdict::Accepted(Accepted {
+                    sequence,
+                    blocks,
+                    end: mark,
+                });
+            }
+            ReadAnswer::Refused(refusal) => {
+                return Verdict::Refused(Rejected {
+                    refusal,
+                    offset: mark.offset,
+                    blocks,
+                });
+            }
+            ReadAnswer::Found(found) => {
+                mark = found.next;
+                blocks += 1;
+            }
+        }
+    }
+}
+
+// Checks a whole volume: accepted, with its number of blocks and its end bookmark, or refused, and where.
+pub fn check(volume: &[u8]) -> Verdict
+    ensures { λ r. ⌜ r ≡ checkAnswer (now (volume .entry)) ⌝ }
+{
+    match read_header(volume) {
+        HeaderAnswer::Refused(refusal) => Verdict::Refused(Rejected {
+            refusal,
+            offset: 0,
+            blocks: 0,
+        }),
+        HeaderAnswer::Accepted(header) => check_from(volume, header.sequence, header.next),
+    }
+}

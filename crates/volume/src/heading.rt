@@ -1,0 +1,110 @@
+// The header: what it answers, and the parts that it hands out.
+use crate::Bookmark;
+use crate::Header;
+use crate::HeaderAnswer;
+use crate::LastTime;
+use crate::refuse;
+ghost use mathlib.Core.Path.{_≡_};
+ghost use Prim.Native.Nat.{_-_, _≤_};
+ghost use lib.ListN.{length};
+ghost use Rattle.checks.specs.Checks.{firstFault};
+ghost use Rattle.volume.specs.Heading.{sequenceOf, previousOf, hashWrong, fieldOrder, headerFault, firstMark, headerAnswer, partAnswer};
+
+// Whether the header is that of volume 0 and has a previous hash.
+fn hash_wrong(volume: &[u8]) -> bool
+    requires { ⌜ 80 ≤ length (now volume) ⌝ }
+    ensures { λ r. ⌜ r ≡ hashWrong (sequenceOf (now (volume .entry))) (previousOf (now (volume .entry))) ⌝ }
+{
+    if number::read_u64(volume, 36) == 0 {
+        return !number::same_bytes(&volume[44..76], &[0u8; 32]);
+    }
+    false
+}
+
+// The first fault among the fields of a header that is whole.
+fn field_fault(volume: &[u8]) -> u64
+    requires { ⌜ 80 ≤ length (now volume) ⌝ }
+    ensures { λ r. ⌜ r ≡ firstFault (fieldOrder (now (volume .entry))) ⌝ }
+{
+    if !number::same_bytes(&volume[0..17], b"\xD3HDRFS\r\n\x1A\n\x00HDRFS\x00") {
+        return 3;
+    }
+    if number::read_u8(volume, 17) != 0 {
+        return 4;
+    }
+    if number::read_u8(volume, 34) != 0 {
+        return 4;
+    }
+    if number::read_u8(volume, 35) != 0 {
+        return 4;
+    }
+    if block::sum_wrong(volume, 0, 76) {
+        return 5;
+    }
+    if hash_wrong(volume) {
+        return 6;
+    }
+    0
+}
+
+// Internal: the first fault of a volume's header, or 0.
+pub fn header_fault(volume: &[u8]) -> u64
+    ensures { λ r. ⌜ r ≡ headerFault (now (volume .entry)) ⌝ }
+{
+    if 16777216 < volume.len() {
+        return 1;
+    }
+    if volume.len() < 80 {
+        return 2;
+    }
+    field_fault(volume)
+}
+
+// The bookmark after a header.
+pub(crate) fn first_mark(sequence: u64) -> Bookmark
+    ensures { λ r. ⌜ r ≡ firstMark sequence ⌝ }
+{
+    Bookmark {
+        offset: 80,
+        due: 0 < sequence,
+        last: LastTime::Never,
+    }
+}
+
+// Reads the header: the sequence number and the bookmark after it, or the refusal.
+pub fn read_header(volume: &[u8]) -> HeaderAnswer
+    ensures { λ r. ⌜ r ≡ headerAnswer (now (volume .entry)) ⌝ }
+{
+    let fault = header_fault(volume);
+    if fault != 0 {
+        return HeaderAnswer::Refused(refuse(fault));
+    }
+    let sequence = number::read_u64(volume, 36);
+    let next = first_mark(sequence);
+    HeaderAnswer::Accepted(Header { sequence, next })
+}
+
+// A part of a sound header, as a part of the volume; empty where the header is refused.
+fn handed_out(volume: &[u8], from: usize, to: usize) -> &[u8]
+    requires { ⌜ (from ≤ to) × (to ≤ 80) ⌝ }
+    ensures { λ r. ⌜ now r ≡ partAnswer (now (volume .entry)) from (to - from) ⌝ }
+{
+    if header_fault(volume) != 0 {
+        return &volume[0..0];
+    }
+    &volume[from..to]
+}
+
+// The file system ID, as a part of the volume; empty where the header is refused.
+pub fn file_system_id(volume: &[u8]) -> &[u8]
+    ensures { λ r. ⌜ now r ≡ partAnswer (now (volume .entry)) 18 16 ⌝ }
+{
+    handed_out(volume, 18, 34)
+}
+
+// The hash of the previous volume, as a part of the volume; empty where the header is refused.
+pub fn previous_hash(volume: &[u8]) -> &[u8]
+    ensures { λ r. ⌜ now r ≡ partAnswer (now (volume .entry)) 44 32 ⌝ }
+{
+    handed_out(volume, 44, 76)
+}

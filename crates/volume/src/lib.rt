@@ -1,0 +1,78 @@
+// Reading an HDRFS volume: its header, its blocks by bookmark, and the whole-volume check.
+//
+// Public calls: read_header, file_system_id, previous_hash, Bookmark::read, check.
+pub mod checking;
+pub mod heading;
+pub mod reading;
+
+use block::Block;
+ghost use mathlib.Core.Path.{_≡_};
+ghost use Rattle.volume.specs.Heading.{refusalOf};
+
+// The last time in the volume so far, if there is one.
+pub enum LastTime {
+    Never,
+    At(u64),
+}
+
+// A place in a volume at which a block is read or written, with what is known there: a bookmark.
+pub struct Bookmark {
+    pub offset: usize,
+    // Whether a link table is due here.
+    pub due: bool,
+    pub last: LastTime,
+}
+
+// Why a call refuses: the number of the list of refusals.
+pub struct Refusal {
+    pub number: u64,
+}
+
+// What a sound header gives.
+pub struct Header {
+    pub sequence: u64,
+    pub next: Bookmark,
+}
+
+pub enum HeaderAnswer {
+    Accepted(Header),
+    Refused(Refusal),
+}
+
+// A block that was read, and the bookmark after it.
+pub struct Found {
+    pub block: Block,
+    pub next: Bookmark,
+}
+
+pub enum ReadAnswer {
+    Found(Found),
+    End,
+    Refused(Refusal),
+}
+
+// A volume that is accepted: the blocks after the header, the table included, and the end bookmark.
+pub struct Accepted {
+    pub sequence: u64,
+    pub blocks: u64,
+    pub end: Bookmark,
+}
+
+// A volume that is refused: where the header or block at fault begins, and the blocks accepted before it.
+pub struct Rejected {
+    pub refusal: Refusal,
+    pub offset: usize,
+    pub blocks: u64,
+}
+
+pub enum Verdict {
+    Accepted(Accepted),
+    Refused(Rejected),
+}
+
+// Internal: the one place that makes a refusal.
+pub fn refuse(number: u64) -> Refusal
+    ensures { λ r. ⌜ r ≡ refusalOf number ⌝ }
+{
+    Refusal { number }
+}

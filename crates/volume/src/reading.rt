@@ -1,0 +1,100 @@
+// Reading the block at a bookmark.
+use crate::Bookmark;
+use crate::Found;
+use crate::LastTime;
+use crate::ReadAnswer;
+use crate::refuse;
+use block::Block;
+use block::numbers::TIME_NOT_GREATER;
+ghost use mathlib.Core.Path.{_≡_};
+ghost use Rattle.block.specs.Shown.{timeOfBlock};
+ghost use Rattle.volume.specs.Reading.{asOption, isEnd, mayFollow, markAfter, readAnswer};
+
+// Whether the bookmark stands at the end of the volume, with nothing due there.
+fn is_end(volume: &[u8], mark: Bookmark) -> bool
+    ensures { λ r. ⌜ r ≡ isEnd (now (volume .entry)) mark ⌝ }
+{
+    if 16777216 < volume.len() {
+        return false;
+    }
+    if mark.offset < 80 {
+        return false;
+    }
+    if mark.offset != volume.len() {
+        return false;
+    }
+    !mark.due
+}
+
+// The time of a block, if it has one.
+fn time_of(block: Block) -> LastTime
+    ensures { λ r. ⌜ asOption r ≡ timeOfBlock block ⌝ }
+{
+    match block {
+        Block::Inode(b) => LastTime::At(b.time),
+        Block::Link(b) => LastTime::At(b.time),
+        Block::Unlink(b) => LastTime::At(b.time),
+        Block::Xattr(b) => LastTime::At(b.time),
+        Block::RemovedXattr(b) => LastTime::At(b.time),
+        Block::Data(b) => LastTime::At(b.time),
+        Block::Rename(b) => LastTime::At(b.time),
+        Block::Table(_) => LastTime::Never,
+    }
+}
+
+// The time rule: whether a block with this time may follow.
+pub(crate) fn may_follow(last: LastTime, time: LastTime) -> bool
+    ensures { λ r. ⌜ r ≡ mayFollow last (asOption time) ⌝ }
+{
+    let LastTime::At(new) = time else {
+        return true;
+    };
+    match last {
+        LastTime::Never => true,
+        LastTime::At(old) => old < new,
+    }
+}
+
+// The bookmark after a block that ends at `end`: the one place where a bookmark is made from another.
+pub(crate) fn mark_after(end: usize, last: LastTime, time: LastTime) -> Bookmark
+    ensures { λ r. ⌜ r ≡ markAfter end last (asOption time) ⌝ }
+{
+    match time {
+        LastTime::Never => Bookmark {
+            offset: end,
+            due: false,
+            last,
+        },
+        LastTime::At(_) => Bookmark {
+            offset: end,
+            due: false,
+            last: time,
+        },
+    }
+}
+
+impl Bookmark {
+    // Reads the block at the bookmark: the block with the bookmark after it, "end", or the refusal.
+    pub fn read(self, volume: &[u8]) -> ReadAnswer
+        ensures { λ r. ⌜ r ≡ readAnswer (now (volume .entry)) self ⌝ }
+    {
+        let offset = self.offset;
+        let due = self.due;
+        let last = self.last;
+        if is_end(volume, self) {
+            return ReadAnswer::End;
+        }
+        let fault = block::block_fault(volume, offset, due);
+        if fault != 0 {
+            return ReadAnswer::Refused(refuse(fault));
+        }
+        let decoded = block::decode(volume, offset);
+        let found = decoded.block;
+        let time = time_of(found);
+        if !may_follow(last, time) {
+            return ReadAnswer::Refused(refuse(TIME_NOT_GREATER));
+        }
+        let next = mark_after(decoded.end, last, time);
+        ReadAnswer::Found(Found { block: found, next })
+    }
+}

@@ -1,0 +1,298 @@
+#!/usr/bin/env python3
+"""Makes the sample volumes of crates/samples/data and what the program `samples` must print of them.
+
+The answers come from the small reader below, which is written from the rules alone and shares nothing with the library.
+Run it from the top of the repository after a change to the list of samples; the files it writes are kept in the repository.
+"""
+import pathlib
+import struct
+import zlib
+
+LIMIT = 16_777_216
+MAGIC = bytes.fromhex("D3484452 46530D0A 1A0A0048 44524653 00".replace(" ", ""))
+TOP = 2**64 - 1
+
+
+# ---- images, field by field
+
+def sealed(body):
+    return body + struct.pack("<I", zlib.crc32(body))
+
+
+def header(sequence=0, previous=bytes(32), ident=bytes(range(16)), version=0, crc=0, hash_=0, magic=MAGIC):
+    return sealed(magic + bytes([version]) + ident + bytes([crc, hash_]) + struct.pack("<Q", sequence) + previous)
+
+
+def inode(time, mode, rest=b"", size=70, number=7):
+    fields = struct.pack("<QQHHHQQQQQQ", number, time, mode, 1, 2, 3, 4, 5, 6, size, len(rest))
+    return sealed(b"\x01" + fields + rest)
+
+
+def link(time, name, ident=2, child=8, parent=1):
+    return sealed(bytes([ident]) + struct.pack("<QQQH", time, child, parent, len(name)) + name)
+
+
+def xattr(time, name, value, number=7):
+    return sealed(b"\x04" + struct.pack("<QQBH", time, number, len(name), len(value)) + name + value)
+
+
+def removed(time, name, number=7):
+    return sealed(b"\x05" + struct.pack("<QQB", time, number, len(name)) + name)
+
+
+def data(time, payload):
+    return sealed(b"\x06" + struct.pack("<QQ", time, len(payload)) + payload)
+
+
+def rename(time, old, new):
+    return sealed(b"\x07" + struct.pack("<QHH", time, len(old), len(new)) + old + new)
+
+
+def table(links):
+    body = b"".join(struct.pack("<QQH", child, parent, len(name)) + name for child, parent, name in links)
+    return sealed(b"\x08" + struct.pack("<Q", len(links)) + body)
+
+
+def extent(volume=0, start=0, size=0, multiplicity=67, count=1, pre=0, post=0, logical=0):
+    return struct.pack("<QQQBQQQQ", volume, start, size, multiplicity, count, pre, post, logical)
+
+
+# ---- an independent reader
+
+def is_text(raw):
+    try:
+        raw.decode("utf-8")
+        return True
+    except UnicodeDecodeError:
+        return False
+
+
+def header_fault(v):
+    if len(v) > LIMIT:
+        return 1
+    if len(v) < 80:
+        return 2
+    if v[:17] != MAGIC:
+        return 3
+    if v[17] or v[34] or v[35]:
+        return 4
+    if zlib.crc32(v[:76]) != int.from_bytes(v[76:80], "little"):
+        return 5
+    if int.from_bytes(v[36:44], "little") == 0 and any(v[44:76]):
+        return 6
+    return 0
+
+
+def extent_fault(raw):
+    """11 and 12 over a list of extents, all of 11 first."""
+    kept = []
+    for i in range(0, len(raw), 57):
+        volume, p, s, m, c, pre, post, q = struct.unpack("<QQQBQQQQ", raw[i:i + 57])
+        if m not in (67, 82):
+            return 11
+        whole = s * c
+        if whole > TOP or pre + post > TOP or pre + post > whole:
+            return 11
+        length = whole - pre - post
+        footprint = whole if m == 67 else s
+        if q + length > TOP or p + footprint > TOP:
+            return 11
+        if length:
+            kept.append((q, q + length))
+    kept.sort()
+    return 12 if any(a[1] > b[0] for a, b in zip(kept, kept[1:])) else 0
+
+
+FIXED = {1: 71, 2: 27, 3: 27, 4: 20, 5: 18, 6: 17, 7: 13, 8: 9}
+
+
+def read_block(v, offset, due, last):
+    """(refusal, None, None) or (0, end offset, time); 'end' is (0, None, None)."""
+    if len(v) > LIMIT:
+        return 1, None, None
+    if offset < 80:
+        return 8, None, None
+    if offset == len(v) and not due:
+        return 0, None, None
+    if offset >= len(v):
+        return 2, None, None
+    b = v[offset:]
+    kind = b[0]
+    if kind not in FIXED:
+        return 7, None, None
+    if due != (kind == 8):
+        return 8, None, None
+    fixed = FIXED[kind]
+    if len(b) < fixed:
+        return 2, None, None
+
+    def number(at, width):
+        return int.from_bytes(b[at:at + width], "little")
+
+    time = None if kind == 8 else number(9 if kind == 1 else 1, 8)
+    links, texts, lengths = [], [], []
+    if kind == 1:
+        lengths = [number(63, 8)]
+        if number(17, 2) // 4096 == 8 and lengths[0] > 58368:
+            return 9, None, None
+    elif kind in (2, 3):
+        lengths = [number(25, 2)]
+    elif kind == 4:
+        lengths = [number(17, 1), number(18, 2)]
+    elif kind == 5:
+        lengths = [number(17, 1)]
+    elif kind == 6:
+        lengths = [number(9, 8)]
+    elif kind == 7:
+        lengths = [number(9, 2), number(11, 2)]
+    else:
+        if number(1, 8) > 4096:
+            return 9, None, None
+        at = 9
+        for _ in range(number(1, 8)):
+            if len(b) < at + 18 or len(b) < at + 18 + number(at + 16, 2):
+                return 2, None, None
+            m = number(at + 16, 2)
+            links.append((number(at + 8, 8), b[at + 18:at + 18 + m]))
+            at += 18 + m
+        lengths = [at - 9]
+    end = fixed + sum(lengths)
+    if len(b) < end + 4:
+        return 2, None, None
+    if zlib.crc32(b[:end]) != number(end, 4):
+        return 5, None, None
+    parts, at = [], fixed
+    for n in lengths:
+        parts.append(b[at:at + n])
+        at += n
+    file_type = number(17, 2) // 4096 if kind == 1 else None
+    if kind == 1:
+        texts = parts if file_type == 10 else []
+    elif kind in (2, 3, 5, 7):
+        texts = parts
+    elif kind == 4:
+        texts = parts[:1]
+    elif kind == 8:
+        texts = [name for _, name in links]
+    if not all(is_text(t) for t in texts):
+        return 10, None, None
+    if kind == 1:
+        size, n = number(55, 8), lengths[0]
+        if file_type == 8:
+            fault = 11 if n % 57 else extent_fault(parts[0])
+        elif file_type == 10:
+            fault = 0 if size == 70 + n else 11
+        else:
+            fault = 0 if n == 0 and size == 70 else 11
+        if fault:
+            return fault, None, None
+    if len(set(links)) != len(links):
+        return 13, None, None
+    if time is not None and last is not None and time <= last:
+        return 14, None, None
+    return 0, offset + end + 4, time
+
+
+def check(v):
+    fault = header_fault(v)
+    if fault:
+        return f"refused {fault} at 0 after 0 blocks"
+    sequence = int.from_bytes(v[36:44], "little")
+    offset, due, last, blocks = 80, sequence > 0, None, 0
+    while True:
+        fault, end, time = read_block(v, offset, due, last)
+        if fault:
+            return f"refused {fault} at {offset} after {blocks} blocks"
+        if end is None:
+            return f"accepted, volume {sequence}, {blocks} blocks, end {offset}"
+        offset, due, blocks = end, False, blocks + 1
+        last = last if time is None else time
+
+
+# ---- the samples
+
+def damaged(v, at, value):
+    return v[:at] + bytes([value]) + v[at + 1:]
+
+
+REGULAR, LINK, FOLDER = 0o100644, 0o120777, 0o040755
+V = header() + data(7, b"1,5")
+EIGHT = (header(1, bytes([9] * 32)) + table([(8, 1, b"gauge"), (9, 1, b"log")])
+         + inode(1, REGULAR, extent(0, 97, 3) + extent(0, 97, 3, 82, 3, 1, 1, 4), 14)
+         + inode(2, LINK, b"gauge", 75) + inode(3, FOLDER) + link(4, b"gauge") + link(5, b"log", 3)
+         + xattr(6, b"unit", b"m\xFF") + removed(7, b"unit") + data(8, b"1,5") + rename(9, b"gauge", b"p\xC3\xA9gel"))
+
+
+def many_extents(n):
+    return header() + inode(1, REGULAR, b"".join(extent(0, 0, 1, 67, 1, 0, 0, (i * 617) % n) for i in range(n)), n)
+
+
+SAMPLES = [
+    # sound volumes
+    ("sound_header_0", header()),
+    ("v", V),
+    ("all_kinds", EIGHT),
+    ("extents_1024", many_extents(1024)),
+    ("empty_names", header() + link(1, b"") + removed(2, b"") + rename(3, b"", b"") + xattr(4, b"", b"") + data(5, b"")),
+    ("empty_table", header(1) + table([])),
+    ("ranges_touch", header() + inode(1, REGULAR, extent(0, 0, 3) + extent(0, 0, 2, logical=3), 5)),
+    ("kept_nothing", header() + inode(1, REGULAR, extent(0, 0, 0, 67, TOP) + extent(0, 0, 3, logical=0), 3)),
+    ("same_name_other_parent", header(1) + table([(8, 1, b"a"), (8, 2, b"a")])),
+    # each number that reading gives, in the order of their list
+    ("cut_header", header()[:79]),
+    ("nothing", b""),
+    ("table_missing", header(1)),
+    ("cut_fields", header() + data(7, b"1,5")[:16]),
+    ("cut_rest", V[:-1]),
+    ("length_near_2_64", header() + b"\x06" + struct.pack("<QQ", 7, TOP - 16) + b"1,5"),
+    ("wrong_magic", damaged(header(), 16, 1)),
+    ("other_version", header(version=1)),
+    ("other_checksum_kind", header(crc=1)),
+    ("other_hash_kind", header(hash_=1)),
+    ("wrong_header_sum", damaged(header(), 79, header()[79] ^ 1)),
+    ("wrong_block_sum", damaged(V, 98, ord("."))),
+    ("hash_in_volume_0", header(0, bytes(31) + b"\x01")),
+    ("id_0", header() + bytes(21)),
+    ("id_9", header() + sealed(b"\x09" + bytes(16))),
+    ("table_in_volume_0", header() + table([])),
+    ("data_where_table_due", header(1) + data(7, b"1,5")),
+    ("second_table", header(1) + table([]) + table([])),
+    ("extents_1025", many_extents(1025)),
+    ("links_4097", header(1) + b"\x08" + struct.pack("<Q", 4097)),
+    ("name_not_text", header() + link(1, b"a\xC0\x80")),
+    ("second_path_not_text", header() + rename(1, b"a", b"\xED\xA0\x80")),
+    ("target_not_text", header() + inode(1, LINK, b"\xFF", 71)),
+    ("table_name_not_text", header(1) + table([(8, 1, b"a"), (9, 1, b"\x80")])),
+    ("extents_cut", header() + inode(1, REGULAR, extent()[:56], 0)),
+    ("product_over", header() + inode(1, REGULAR, extent(0, 0, 2**32, 67, 2**32), 0)),
+    ("cuts_over", header() + inode(1, REGULAR, extent(0, 0, 3, 67, 1, TOP, 1), 0)),
+    ("cuts_beyond", header() + inode(1, REGULAR, extent(0, 0, 3, 67, 1, 2, 2), 0)),
+    ("end_over", header() + inode(1, REGULAR, extent(0, 0, 3, 67, 1, 0, 0, TOP - 2), 0)),
+    ("place_over", header() + inode(1, REGULAR, extent(0, TOP - 2, 3), 0)),
+    ("unknown_multiplicity", header() + inode(1, REGULAR, extent(0, 0, 3, 66), 0)),
+    ("target_size", header() + inode(1, LINK, b"gauge", 74)),
+    ("folder_with_bytes", header() + inode(1, FOLDER, b"x", 70)),
+    ("folder_size", header() + inode(1, FOLDER, b"", 71)),
+    ("ranges_overlap", header() + inode(1, REGULAR, extent(0, 0, 3) + extent(0, 0, 3, logical=2), 5)),
+    ("link_twice", header(1) + table([(8, 1, b"a"), (9, 2, b"a"), (9, 1, b"a")])),
+    ("same_time", header() + data(7, b"1,5") + data(7, b"1,5")),
+    ("earlier_time", header(1) + table([]) + data(7, b"1,5") + inode(6, FOLDER)),
+]
+
+
+def main():
+    root = pathlib.Path("crates/samples")
+    folder = root / "data"
+    folder.mkdir(exist_ok=True)
+    for old in folder.glob("*.vol"):
+        old.unlink()
+    for name, volume in SAMPLES:
+        (folder / f"{name}.vol").write_bytes(volume)
+    (root / "args").write_text("".join(f"{name}.vol\n" for name, _ in SAMPLES))
+    # the lines before those of the volumes are kept
+    kept = [line for line in (root / "stdout").read_text().splitlines() if ".vol: " not in line]
+    rows = [f"{name}.vol: {check(volume)}" for name, volume in SAMPLES]
+    (root / "stdout").write_text("\n".join(kept + rows) + "\n")
+
+
+main()
