@@ -3,14 +3,14 @@
 use mathlib.Core.Path.{_≡_, refl, sym, _∙_}
 use mathlib.Core.Bool.{Bool, true, false, not, cond, _||_}
 use mathlib.Core.List.{List, [], _∷_, _++_}
-use Prim.Native.Nat.{ℕ, zero, suc, _+_, _-_, _≤_}
-use native.Mathlib.Nat.{add-zero, suc-ne-zero}
+use Prim.Native.Nat.{ℕ, _+_, _-_, _≤_}
+use native.Mathlib.Nat.{add-zero}
 use lib.Dec.{T, ltb}
 use lib.ListN.{length, drop}
 use borrow.Author.Tests.{le-ltb, eq-eqb, ne-eqb}
 use Rattle.number.specs.Number.{part}
 use Rattle.checks.specs.Checks.{Check, check, Decides, miss, firstFault}
-use Rattle.checks.proofs.Laws.{decided, rest, numbered, faultAt, passed, firstFault-append}
+use Rattle.checks.proofs.Laws.{decided, rest, numbered, faultAt, passed, passed-part, firstFault-append}
 use Rattle.checks.proofs.Tests.{told-not}
 use Rattle.utf8.specs.Length.{isText}
 use Rattle.format.specs.Blocks.{Kind, inodeBlock, linkBlock, unlinkBlock, xattrBlock, removedXattrBlock, dataBlock, renameBlock, linkTable, FileType}
@@ -32,16 +32,6 @@ continued a b {m} p e z f = rw (firstFault-append a b p, ← e, eq-eqb m 0 z, f)
 -- and each of its checks is passed
 pub passed-told : (k : ℕ) (a : List Check) {m : ℕ} → T (numbered a) → m ≡ firstFault a → m ≡ 0 → faultAt k a ≡ false
 passed-told k a p e z = passed k a p (sym e ∙ z)
-
--- where a table finds no fault, neither do its checks from the k-th on
-clear-from : (k : ℕ) (checks : List Check) → T (numbered checks) → firstFault checks ≡ 0 → firstFault (drop k checks) ≡ 0
-unfolding firstFault
-clear-from zero checks p e = e
-clear-from (suc k) [] p e = refl
-clear-from (suc k) (check true zero ∷ checks) p e = absurd p
-clear-from (suc k) (check true (suc n) ∷ checks) p e = absurd (suc-ne-zero n e)
-clear-from (suc k) (check false zero ∷ checks) p e = absurd p
-clear-from (suc k) (check false (suc n) ∷ checks) p e = clear-from k checks p e
 
 -- a check of two faults is two checks with the same number
 either : (x y : Bool) (n m : ℕ) → cond (x || y) n m ≡ cond x n (cond y n m)
@@ -77,7 +67,7 @@ module _ (volume : List ℕ) (offset : ℕ) where
   -- where a block has no fault, its kind's own checks find none: what `decode` requires
   pub kind-clear : (due : Bool) → firstFault (blockOrder volume offset due) ≡ 0
       → firstFault (kindOrder (kindAt volume offset) volume offset) ≡ 0
-  kind-clear due e = clear-from 5 (blockOrder volume offset due) tt e
+  kind-clear due e = passed-part 5 8 (blockOrder volume offset due) tt e
 
   -- the table of each kind once the fixed fields are there
   fields-there : (kind : Kind) {m : ℕ} → offset + before kind ≤ length volume

@@ -4,6 +4,14 @@ use crate::Header;
 use crate::HeaderAnswer;
 use crate::LastTime;
 use crate::refuse;
+use block::numbers::CHECKSUM_WRONG;
+use block::numbers::CUT_SHORT;
+use block::numbers::HASH_NOT_ZERO;
+use block::numbers::HEADER_LEN;
+use block::numbers::MAGIC_WRONG;
+use block::numbers::TOO_LARGE;
+use block::numbers::VERSION_UNKNOWN;
+use block::numbers::VOLUME_LIMIT;
 ghost use mathlib.Core.Path.{_≡_};
 ghost use Prim.Native.Nat.{_-_, _≤_};
 ghost use lib.ListN.{length};
@@ -27,22 +35,22 @@ fn field_fault(volume: &[u8]) -> u64
     ensures { λ r. ⌜ r ≡ firstFault (fieldOrder (now (volume .entry))) ⌝ }
 {
     if !number::same_bytes(&volume[0..17], b"\xD3HDRFS\r\n\x1A\n\x00HDRFS\x00") {
-        return 3;
+        return MAGIC_WRONG;
     }
     if number::read_u8(volume, 17) != 0 {
-        return 4;
+        return VERSION_UNKNOWN;
     }
     if number::read_u8(volume, 34) != 0 {
-        return 4;
+        return VERSION_UNKNOWN;
     }
     if number::read_u8(volume, 35) != 0 {
-        return 4;
+        return VERSION_UNKNOWN;
     }
     if block::sum_wrong(volume, 0, 76) {
-        return 5;
+        return CHECKSUM_WRONG;
     }
     if hash_wrong(volume) {
-        return 6;
+        return HASH_NOT_ZERO;
     }
     0
 }
@@ -51,11 +59,11 @@ fn field_fault(volume: &[u8]) -> u64
 pub fn header_fault(volume: &[u8]) -> u64
     ensures { λ r. ⌜ r ≡ headerFault (now (volume .entry)) ⌝ }
 {
-    if 16777216 < volume.len() {
-        return 1;
+    if VOLUME_LIMIT < volume.len() {
+        return TOO_LARGE;
     }
-    if volume.len() < 80 {
-        return 2;
+    if volume.len() < HEADER_LEN {
+        return CUT_SHORT;
     }
     field_fault(volume)
 }
@@ -65,7 +73,7 @@ pub(crate) fn first_mark(sequence: u64) -> Bookmark
     ensures { λ r. ⌜ r ≡ firstMark sequence ⌝ }
 {
     Bookmark {
-        offset: 80,
+        offset: HEADER_LEN,
         due: 0 < sequence,
         last: LastTime::Never,
     }

@@ -5,7 +5,9 @@ use crate::LastTime;
 use crate::ReadAnswer;
 use crate::refuse;
 use block::Block;
+use block::numbers::HEADER_LEN;
 use block::numbers::TIME_NOT_GREATER;
+use block::numbers::VOLUME_LIMIT;
 ghost use mathlib.Core.Path.{_≡_};
 ghost use Rattle.block.specs.Shown.{timeOfBlock};
 ghost use Rattle.volume.specs.Reading.{asOption, isEnd, mayFollow, markAfter, readAnswer};
@@ -14,10 +16,10 @@ ghost use Rattle.volume.specs.Reading.{asOption, isEnd, mayFollow, markA
 fn is_end(volume: &[u8], mark: Bookmark) -> bool
     ensures { λ r. ⌜ r ≡ isEnd (now (volume .entry)) mark ⌝ }
 {
-    if 16777216 < volume.len() {
+    if VOLUME_LIMIT < volume.len() {
         return false;
     }
-    if mark.offset < 80 {
+    if mark.offset < HEADER_LEN {
         return false;
     }
     if mark.offset != volume.len() {

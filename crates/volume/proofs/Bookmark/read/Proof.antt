@@ -14,7 +14,8 @@ use Rattle.volume.specs.declared.Found.{Found}
 use Rattle.volume.specs.declared.ReadAnswer.the-variants.{Found as Answer}
 use native.Mathlib.Nat.{suc-ne-zero}
 use borrow.Author.Tests.{not-true, not-false}
-use Rattle.volume.proofs.Whole.{kind-clear, block-decides, time-decides}
+use Rattle.volume.proofs.Whole.{block-decides, time-decides}
+use Rattle.block.proofs.Faults.{kind-clear}
 use Rattle.volume.proofs.Steps.{foundAt, end-read, refusal-read, found-read}
 use borrow.Author.Needs.{needs}
 use Rattle.volume.proofs.Bookmark.read.Statement.{statement}
