@@ -29,6 +29,9 @@ pub const LINK_TWICE: u64 = 13;
 
 pub const TIME_NOT_GREATER: u64 = 14;
 
+// The result is longer than the lent room.
+pub const ROOM_TOO_SMALL: u64 = 17;
+
 // The most bytes that a volume may have.
 pub const VOLUME_LIMIT: usize = 16777216;
 

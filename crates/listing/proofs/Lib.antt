@@ -1,0 +1,6 @@
+pub mod Digits
+pub mod Pieces
+pub mod Steps
+pub mod Room
+pub mod Walk
+pub mod Verdict

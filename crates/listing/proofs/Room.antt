@@ -1,0 +1,142 @@
+-- The text has at most 65,536 bytes: the line of a block is never longer than the block, and the heading and the last line
+-- together are shorter than a header. Assumes nothing.
+use Prim.Native.Nat.{ℕ, zero, suc, _+_, _-_, _≤_, _<_}
+use mathlib.Core.Path.{_≡_, refl}
+use mathlib.Core.Bool.{Bool, true, false, _&&_, and-eq-true-iff}
+use mathlib.Core.List.{List, [], _∷_}
+use mathlib.Mathlib.Data.Bool.Basic.{or-eq-false-eq-eq-false-and-eq-false}
+use native.Mathlib.Omega.{arith}
+use lib.Dec.{leb, ltb, eqb, lit≤, lit<}
+use lib.ListN.{length, length-append}
+use borrow.Author.Tests.{ltb-true, ltb-false, leb-true, eqb-true, le-leb}
+use Rattle.checks.specs.Checks.{Check, check, firstFault}
+use Rattle.checks.proofs.Laws.{passed}
+use Rattle.format.specs.Blocks.{Kind, inodeBlock, linkBlock, unlinkBlock, xattrBlock, removedXattrBlock, dataBlock, renameBlock, linkTable}
+use Rattle.block.specs.Fields.{idAt, kindAt, before}
+use Rattle.volume.specs.Heading.{sequenceOf, headerOrder, headerFault, firstMark, headerAnswer}
+use Rattle.volume.specs.Reading.{readOrder, readFault, nextMark}
+use Rattle.volume.specs.declared.Bookmark.{Bookmark}
+use Rattle.volume.specs.declared.ReadAnswer.{ReadAnswer}
+use Rattle.volume.proofs.Whole.{header-length}
+use Rattle.volume.proofs.Steps.{Answers, ends, finds, refuses, answers, sound-further}
+use Rattle.listing.specs.Decimal.{decimal}
+use Rattle.listing.specs.Listing.{blockLine, endLine, refusedLine, lineOf, lines, linesFrom, afterHeading, listLimit, listing, listAnswer}
+use Rattle.listing.specs.declared.ListAnswer.the-variants.{Written}
+use Rattle.listing.proofs.Digits.{decimal-short}
+
+-- the numbers of a table of checks are at most a given one
+abbrev upTo : ℕ → List Check → Bool
+upTo most [] = true
+upTo most (check fault number ∷ checks) = leb number most && upTo most checks
+
+fault-most : (most : ℕ) (checks : List Check) → upTo most checks ≡ true → firstFault checks ≤ most
+unfolding firstFault
+fault-most most [] e = omega arith
+fault-most most (check true number ∷ checks) e = leb-true number most (and-eq-true-iff (leb number most) (upTo most checks) .0 e .0)
+fault-most most (check false number ∷ checks) e = fault-most most checks (and-eq-true-iff (leb number most) (upTo most checks) .0 e .1)
+
+-- every block has its ID and at least one field of eight bytes before the variable parts
+before-least : (kind : Kind) → 9 ≤ before kind
+before-least inodeBlock = lit≤ tt
+before-least linkBlock = lit≤ tt
+before-least unlinkBlock = lit≤ tt
+before-least xattrBlock = lit≤ tt
+before-least removedXattrBlock = lit≤ tt
+before-least dataBlock = lit≤ tt
+before-least renameBlock = lit≤ tt
+before-least linkTable = lit≤ tt
+
+-- the line of a block of 13 bytes or more is not longer than the block
+block-line-short : (offset id len : ℕ) → offset < 100000 → id < 10 → 13 ≤ len → len < 100000 → length (blockLine offset id len) ≤ len
+unfolding blockLine
+block-line-short offset id len p q l h = simp length-append (go (ltb len 100) refl)
+  where
+    go : (t : Bool) → ltb len 100 ≡ t
+        → length (decimal offset) + suc (length (decimal id) + suc (length (decimal len) + 1)) ≤ len
+    go true e = omega (arith, decimal-short 4 offset p, decimal-short 0 id q, decimal-short 1 len (ltb-true len 100 e))
+    go false e = omega (arith, decimal-short 4 offset p, decimal-short 0 id q, decimal-short 4 len h, ltb-false len 100 e)
+
+-- a last line has at most 23 bytes
+end-line-short : (offset blocks : ℕ) → offset < 100000 → blocks < 100000 → length (endLine offset blocks) ≤ 23
+unfolding endLine
+end-line-short offset blocks p q = simp length-append (omega (arith, decimal-short 4 offset p, decimal-short 4 blocks q))
+
+refused-line-short : (number offset : ℕ) → number < 100 → offset < 100000 → length (refusedLine number offset) ≤ 23
+unfolding refusedLine
+refused-line-short number offset p q = simp length-append (omega (arith, decimal-short 1 number p, decimal-short 4 offset q))
+
+-- a block that is accepted has one of the IDs 1 to 8
+sound-id : (volume : List ℕ) (mark : Bookmark) → readFault volume mark ≡ 0 → idAt volume (mark .offset) < 10
+unfolding readFault
+sound-id volume mark f =
+    let known = or-eq-false-eq-eq-false-and-eq-false (eqb (idAt volume (mark .offset)) 0) (ltb 8 (idAt volume (mark .offset)))
+    .0 (passed 3 (readOrder volume mark) tt f) in
+    omega (arith, ltb-false 8 (idAt volume (mark .offset)) (known .1))
+
+read-fault-most : (volume : List ℕ) (mark : Bookmark) → readFault volume mark ≤ 14
+unfolding readFault
+read-fault-most volume mark = fault-most 14 (readOrder volume mark) refl
+
+-- what the lines from a bookmark on may take: the bytes of the volume that are left, and a last line
+abbrev roomAt : (volume : List ℕ) → Bookmark → ℕ
+roomAt volume mark = length volume - mark .offset + 23
+
+line-short : (volume : List ℕ) (mark : Bookmark) (blocks : ℕ) (onward : Bookmark → List ℕ)
+    → length volume ≤ listLimit → mark .offset ≤ length volume → blocks ≤ mark .offset
+    → (readFault volume mark ≡ 0 → length (onward (nextMark volume mark)) ≤ roomAt volume (nextMark volume mark))
+    → {a : ReadAnswer} → Answers volume mark a → length (lineOf volume mark blocks onward a) ≤ roomAt volume mark
+unfolding lineOf
+line-short volume mark blocks onward l h b rest (ends p) =
+    omega (arith, end-line-short (mark .offset) blocks (omega arith) (omega arith))
+line-short volume mark blocks onward l h b rest (finds p f) =
+    let next : ℕ = nextMark volume mark .offset in
+    let id : ℕ = idAt volume (mark .offset) in
+    let further = sound-further volume mark f in
+    let least : 13 ≤ next - mark .offset = omega (arith, before-least (kindAt volume (mark .offset))) in
+    let line : length (blockLine (mark .offset) id (next - mark .offset)) ≤ next - mark .offset
+    = block-line-short (mark .offset) id (next - mark .offset) (omega arith) (sound-id volume mark f) least (omega arith) in
+    simp length-append (omega (arith, rest f))
+line-short volume mark blocks onward l h b rest (refuses p f) =
+    omega (arith, refused-line-short (readFault volume mark) (mark .offset) (omega (arith, read-fault-most volume mark)) (omega arith))
+
+lines-short : (fuel : ℕ) (volume : List ℕ) (mark : Bookmark) (blocks : ℕ)
+    → length volume ≤ listLimit → mark .offset ≤ length volume → blocks ≤ mark .offset
+    → length (lines fuel volume mark blocks) ≤ roomAt volume mark
+unfolding lines
+lines-short zero volume mark blocks l h b = omega arith
+lines-short (suc fuel) volume mark blocks l h b =
+    line-short volume mark blocks (λ next. lines fuel volume next (suc blocks)) l h b
+    (λ f.
+    let further = sound-further volume mark f in
+    lines-short fuel volume (nextMark volume mark) (suc blocks) l (further .1) (omega arith))
+    (answers volume mark)
+
+header-fault-most : (volume : List ℕ) → headerFault volume ≤ 6
+unfolding headerFault
+header-fault-most volume = fault-most 6 (headerOrder volume) refl
+
+after-heading-short : (volume : List ℕ) → length volume ≤ listLimit → length (afterHeading volume (headerAnswer volume)) ≤ listLimit - 17
+unfolding afterHeading headerAnswer linesFrom
+after-heading-short volume l = go (eqb (headerFault volume) 0) refl
+  where
+    go : (t : Bool) → eqb (headerFault volume) 0 ≡ t → length (afterHeading volume (headerAnswer volume)) ≤ listLimit - 17
+    go true e =
+        let whole : 80 ≤ length volume = header-length volume (eqb-true _ _ e) in
+        rw e (omega (arith, lines-short (suc (length volume)) volume (firstMark (sequenceOf volume)) 0 l whole (omega arith)))
+    go false e = rw e (omega (arith, refused-line-short (headerFault volume) 0 (omega (arith, header-fault-most volume)) (lit< tt)))
+
+-- no text is longer than the longest volume that is listed
+pub listing-short : (volume : List ℕ) → length (listing volume) ≤ listLimit
+unfolding listing
+listing-short volume = go (ltb listLimit (length volume)) refl
+  where
+    go : (t : Bool) → ltb listLimit (length volume) ≡ t → length (listing volume) ≤ listLimit
+    go true e = rw e (omega (arith, refused-line-short 1 0 (lit< tt) (lit< tt)))
+    go false e = rw e (omega (arith, after-heading-short volume (ltb-false listLimit (length volume) e)))
+
+-- so a room of that length is never too small
+pub listing-fits : (room : ℕ) (volume : List ℕ) → listLimit ≤ room → listAnswer room volume ≡ Written (length (listing volume))
+unfolding listAnswer
+listing-fits room volume h =
+    let fits : length (listing volume) ≤ room = omega (arith, listing-short volume) in
+    rw (le-leb (length (listing volume)) room fits)

@@ -1,0 +1,60 @@
+-- The walk over the blocks: at each bookmark, whoever writes the lines from there on has written all of them. Assumes nothing.
+use Prim.Native.Nat.{ℕ, suc, _+_, _-_, _≤_}
+use mathlib.Core.Path.{_≡_}
+use mathlib.Core.List.{List}
+use native.Mathlib.Numerals.{add-one}
+use native.Mathlib.Omega.{arith}
+use lib.ListN.{length, length-append}
+use Rattle.block.specs.Fields.{idAt}
+use Rattle.volume.specs.Reading.{readAnswer}
+use Rattle.volume.specs.declared.Bookmark.{Bookmark}
+use Rattle.volume.specs.declared.Found.{Found}
+use Rattle.volume.specs.declared.ReadAnswer.{ReadAnswer}
+use Rattle.volume.specs.declared.ReadAnswer.the-variants.{Found as Block}
+use Rattle.volume.proofs.Steps.{read-further}
+use Rattle.listing.specs.Listing.{blockLine, lineOf, linesFrom, listLimit}
+use Rattle.listing.specs.Writing.{Wrote}
+use Rattle.listing.proofs.Pieces.{then}
+use Rattle.listing.proofs.Steps.{lines-step}
+
+module _ (volume old : List ℕ) (at : ℕ) (first : Bookmark) where
+  -- the room, the bookmark, the number of blocks and the offset in the room, so far
+  pub record Reached (out : List ℕ) (mark : Bookmark) (blocks place : ℕ) : Type 0 where
+    pub few : blocks ≤ mark .offset
+    pub fits : place + length (linesFrom volume mark blocks) ≤ listLimit
+    pub onward : (new : List ℕ) (answer : ℕ) → Wrote out place (linesFrom volume mark blocks) new answer
+        → Wrote old at (linesFrom volume first 0) new answer
+
+pub start : (volume old : List ℕ) (at : ℕ) (first : Bookmark) → at + length (linesFrom volume first 0) ≤ listLimit
+    → Reached volume old at first old first 0 at
+start volume old at first h = record { few = omega arith; fits = h; onward = λ new answer w. w }
+
+module _ {volume old : List ℕ} {at : ℕ} {first : Bookmark} {out : List ℕ} {mark : Bookmark} {blocks place : ℕ} where
+  -- the lines from here on, by what the reading answers
+  pub left-fits : Reached volume old at first out mark blocks place → {a : ReadAnswer} → readAnswer volume mark ≡ a
+      → place + length (lineOf volume mark blocks (λ next. linesFrom volume next (suc blocks)) a) ≤ listLimit
+  left-fits r e = rw (lines-step volume mark blocks e) at (r .fits)
+
+  pub left-written : Reached volume old at first out mark blocks place → {a : ReadAnswer} → readAnswer volume mark ≡ a
+      → (new : List ℕ) (answer : ℕ) → Wrote out place (lineOf volume mark blocks (λ next. linesFrom volume next (suc blocks)) a) new answer
+      → Wrote old at (linesFrom volume first 0) new answer
+  left-written r e new answer w = r .onward new answer (rw (lines-step volume mark blocks e) w)
+
+  -- the line of the block at a bookmark, and then the next bookmark
+  pub line-fits : Reached volume old at first out mark blocks place → (found : Found) → readAnswer volume mark ≡ Block found
+      → place + length (blockLine (mark .offset) (idAt volume (mark .offset)) (found .next .offset - mark .offset)) ≤ listLimit
+  unfolding lineOf
+  line-fits r found e = omega (arith, simp length-append at (left-fits r e))
+
+  pub passed : Reached volume old at first out mark blocks place → (found : Found) → readAnswer volume mark ≡ Block found
+      → {new : List ℕ} {next : ℕ}
+      → Wrote out place (blockLine (mark .offset) (idAt volume (mark .offset)) (found .next .offset - mark .offset)) new next
+      → Reached volume old at first new (found .next) (blocks + 1) next
+  unfolding lineOf
+  passed r found e {new} {next} w =
+      rw (add-one blocks)
+      (record {
+        few = omega (arith, read-further volume mark found e .0, r .few);
+        fits = omega (arith, simp length-append at (left-fits r e), w .after);
+        onward = λ last answer v. left-written r e last answer (then w v);
+      })

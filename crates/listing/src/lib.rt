@@ -1,0 +1,90 @@
+// The listing of a volume, as text in a lent buffer: a heading, a line for each block that is accepted, and a last line
+// that says how it ended.
+//
+// Public call: list. A volume of more than 65,536 bytes is listed as refused; a room that is too small stays as it was.
+// The program hdrfs_list calls it.
+mod text;
+
+use block::numbers::ROOM_TOO_SMALL;
+use block::numbers::TOO_LARGE;
+use volume::Bookmark;
+use volume::HeaderAnswer;
+use volume::ReadAnswer;
+use volume::Refusal;
+use volume::heading::read_header;
+use volume::refuse;
+ghost use mathlib.Core.Path.{_≡_};
+ghost use Prim.Native.Nat.{_+_, _≤_};
+ghost use lib.ListN.{length};
+ghost use Rattle.number.specs.Number.{put};
+ghost use Rattle.listing.specs.Listing.{listLimit, linesFrom, listing, listAnswer};
+ghost use Rattle.listing.specs.Writing.{Wrote};
+
+// The most bytes that a volume to list may have.
+const LIST_LIMIT: usize = 65536;
+
+// How long the text is, or why there is none.
+pub enum ListAnswer {
+    Written(usize),
+    Refused(Refusal),
+}
+
+// Writes the lines of the blocks from a bookmark on, and the last line.
+fn put_lines(volume: &[u8], first: Bookmark, out: &mut [u8], at: usize) -> usize
+    requires { ⌜ at + length (linesFrom (now volume) first 0) ≤ listLimit ⌝ }
+    ensures { λ r. ⌜ Wrote (now (out .entry)) at (linesFrom (now (volume .entry)) first 0) (now (out .exit)) r ⌝ }
+{
+    let mut mark = first;
+    let mut blocks: u64 = 0;
+    let mut place = at;
+    loop {
+        let offset = mark.offset;
+        match mark.read(volume) {
+            ReadAnswer::Found(found) => {
+                let next = found.next;
+                let id = number::read_u8(volume, offset);
+                let len = next.offset - offset;
+                place = text::block_line(out, place, offset as u64, id as u64, len as u64);
+                mark = next;
+                blocks += 1;
+            }
+            ReadAnswer::End => {
+                return text::end_line(out, place, offset as u64, blocks);
+            }
+            ReadAnswer::Refused(why) => {
+                return text::refused_line(out, place, why.number, offset as u64);
+            }
+        }
+    }
+}
+
+// Writes the whole text to the start of the room.
+fn put_listing(volume: &[u8], out: &mut [u8]) -> usize
+    ensures { λ r. ⌜ Wrote (now (out .entry)) 0 (listing (now (volume .entry))) (now (out .exit)) r ⌝ }
+{
+    let at = text::put_word(out, 0, b"offset id length\n");
+    if LIST_LIMIT < volume.len() {
+        return text::refused_line(out, at, TOO_LARGE, 0);
+    }
+    match read_header(volume) {
+        HeaderAnswer::Accepted(header) => {
+            let first = header.next;
+            put_lines(volume, first, out, at)
+        }
+        HeaderAnswer::Refused(why) => text::refused_line(out, at, why.number, 0),
+    }
+}
+
+// Writes the listing of a volume to the start of the room and answers its length, or refuses a room that is too small.
+pub fn list(volume: &[u8], out: &mut [u8]) -> ListAnswer
+    ensures answer { λ r. ⌜ r ≡ listAnswer (length (now (out .entry))) (now (volume .entry)) ⌝ }
+    ensures room { λ _. ⌜ now (out .exit) ≡ put (now (out .entry)) 0 (listing (now (volume .entry))) ⌝ }
+{
+    // The same walk without room writes nothing: it measures the text.
+    let len = put_listing(volume, &mut out[0..0]);
+    if out.len() < len {
+        return ListAnswer::Refused(refuse(ROOM_TOO_SMALL));
+    }
+    put_listing(volume, out);
+    ListAnswer::Written(len)
+}
