@@ -29,6 +29,9 @@ pub const LINK_TWICE: u64 = 13;
 
 pub const TIME_NOT_GREATER: u64 = 14;
 
+// A volume or a range that is asked for is not there.
+pub const NOT_THERE: u64 = 16;
+
 // The result is longer than the lent room.
 pub const ROOM_TOO_SMALL: u64 = 17;
 

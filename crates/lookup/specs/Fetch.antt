@@ -1,0 +1,38 @@
+-- What fetching stored bytes answers: the part of whichever of two volumes has the number, the first if both do.
+use Prim.Native.Nat.{ℕ, _+_}
+use mathlib.Core.Bool.{Bool, true, false, cond}
+use mathlib.Core.Option.{Option, none, some}
+use mathlib.Core.List.{List, [], _∷_, _++_}
+use lib.Dec.{ltb, eqb}
+use lib.ListN.{length}
+use Rattle.number.specs.Number.{part}
+use Rattle.checks.specs.Checks.{Check, check, firstFault}
+use Rattle.volume.specs.Heading.{sequenceOf, headerOrder}
+
+-- the volume with the number, if one has it
+unfoldable pub chosen : (first second : List ℕ) (number : ℕ) → Option (List ℕ)
+chosen first second number =
+    cond (eqb (sequenceOf first) number) (some first) (cond (eqb (sequenceOf second) number) (some second) none)
+
+-- 16: neither volume has the number, or the range reaches beyond it
+abbrev pub outOf : (offset len : ℕ) → Option (List ℕ) → Bool
+outOf offset len none = true
+outOf offset len (some volume) = ltb (length volume) (offset + len)
+
+-- the checks of a fetch: the first header's, the second header's, 16
+abbrev pub fetchOrder : (first second : List ℕ) (number offset len : ℕ) → List Check
+fetchOrder first second number offset len =
+    headerOrder first ++ (headerOrder second ++ (check (outOf offset len (chosen first second number)) 16 ∷ []))
+
+-- 0, or the refusal's number
+unfoldable pub fetchFault : (first second : List ℕ) (number offset len : ℕ) → ℕ
+fetchFault first second number offset len = firstFault (fetchOrder first second number offset len)
+
+abbrev pub partOf : (offset len : ℕ) → Option (List ℕ) → List ℕ
+partOf offset len none = []
+partOf offset len (some volume) = part volume offset len
+
+-- the part; empty on refusal
+unfoldable pub fetchPart : (first second : List ℕ) (number offset len : ℕ) → List ℕ
+fetchPart first second number offset len =
+    cond (eqb (fetchFault first second number offset len) 0) (partOf offset len (chosen first second number)) []
