@@ -1,0 +1,11 @@
+pub mod Stored
+pub mod Keeper
+pub mod Labels
+pub mod Meaning
+pub mod First
+pub mod Agree
+pub mod Walk
+pub mod Sort
+pub mod Fill
+pub mod Room
+pub mod Samples

@@ -1,0 +1,4 @@
+pub mod Positions
+pub mod Runs
+pub mod Answers
+pub mod Steps
