@@ -1,6 +1,6 @@
 -- Whether one of several things passes a test.
 use Prim.Native.Nat.{ℕ, zero, suc}
-use mathlib.Core.Bool.{Bool, true, false, cond, _||_}
+use mathlib.Core.Bool.{Bool, false, cond, _||_}
 use mathlib.Core.Option.{Option, none, some}
 
 -- whether some number below the bound passes the test

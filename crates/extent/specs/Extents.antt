@@ -1,6 +1,6 @@
 -- What the calls on extents answer: the rules of one extent as a test, the extents of a list, and ranges that overlap.
 use Prim.Native.Nat.{ℕ, _+_, _*_, _/_, min, max}
-use mathlib.Core.Bool.{Bool, true, false, not, _&&_, _||_}
+use mathlib.Core.Bool.{Bool, not, _&&_, _||_}
 use mathlib.Core.List.{List}
 use lib.Dec.{leb, ltb, eqb}
 use lib.ListN.{length}

@@ -4,7 +4,7 @@ use mathlib.Core.Path.{_≡_}
 use mathlib.Core.Option.{Option, none, some}
 use mathlib.Core.List.{List, [], _∷_, _++_}
 use Rattle.format.specs.Layout.{All}
-use Rattle.format.specs.Blocks.{Kind, inodeBlock, linkBlock, unlinkBlock, xattrBlock, removedXattrBlock, dataBlock, renameBlock, linkTable, Block, Inode, Link, Unlink, Xattr, RemovedXattr, Data, Rename, Table, kindOf, image, BlockRules}
+use Rattle.format.specs.Blocks.{linkTable, Block, Inode, Link, Unlink, Xattr, RemovedXattr, Data, Rename, Table, kindOf, image, BlockRules}
 use Rattle.format.specs.Headers.{Header, headerImage, HeaderRules}
 
 pub record Reading : Type 0 where

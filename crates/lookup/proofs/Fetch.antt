@@ -1,17 +1,17 @@
 -- The checks of a fetch, one header after the other, and what a fetch that is not refused knows of its range. Assumes nothing.
-use mathlib.Core.Path.{_≡_, refl, sym, ap, _∙_}
+use mathlib.Core.Path.{_≡_, refl, ap, _∙_}
 use mathlib.Core.Bool.{Bool, true, false, cond}
 use mathlib.Core.Option.{Option, none, some}
 use mathlib.Core.List.{List, [], _∷_, _++_}
 use Prim.Native.Nat.{ℕ, _+_, _≤_}
 use native.Mathlib.Omega.{arith}
-use lib.Dec.{ltb, eqb}
+use lib.Dec.{eqb}
 use lib.ListN.{length}
 use borrow.Author.Tests.{ltb-false, eq-eqb, ne-eqb}
 use Rattle.checks.specs.Checks.{Check, check, firstFault}
 use Rattle.checks.proofs.Laws.{passed, firstFault-append}
 use Rattle.volume.specs.Heading.{sequenceOf, headerOrder, headerFault}
-use Rattle.lookup.specs.Fetch.{chosen, outOf, fetchOrder, fetchFault, partOf}
+use Rattle.lookup.specs.Fetch.{chosen, outOf, fetchOrder, fetchFault}
 
 -- the first header decides before the second, and the second before the rest
 pub by-headers : (first second : List ℕ) (others : List Check)

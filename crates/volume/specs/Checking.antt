@@ -1,12 +1,10 @@
 -- What the whole-volume check answers: the header, and then block after block until "end" or a refusal.
 use Prim.Native.Nat.{ℕ, zero, suc}
-use mathlib.Core.Bool.{Bool, true, false}
 use mathlib.Core.List.{List}
 use lib.ListN.{length}
 use Rattle.volume.specs.Heading.{refusalOf, headerAnswer}
 use Rattle.volume.specs.Reading.{readAnswer}
 use Rattle.volume.specs.declared.Bookmark.{Bookmark}
-use Rattle.volume.specs.declared.Refusal.{Refusal}
 use Rattle.volume.specs.declared.HeaderAnswer.{HeaderAnswer}
 use Rattle.volume.specs.declared.HeaderAnswer.the-variants.{Accepted as Sound, Refused as Unsound}
 use Rattle.volume.specs.declared.ReadAnswer.{ReadAnswer}

@@ -1,6 +1,6 @@
 -- What reading a header answers.
-use Prim.Native.Nat.{ℕ, _+_}
-use mathlib.Core.Bool.{Bool, true, false, not, cond, _&&_, _||_}
+use Prim.Native.Nat.{ℕ}
+use mathlib.Core.Bool.{Bool, not, cond, _&&_}
 use mathlib.Core.List.{List, [], _∷_}
 use lib.Dec.{ltb, eqb}
 use lib.ListN.{length}
@@ -9,11 +9,9 @@ use Rattle.number.specs.Same.{sameBytes}
 use Rattle.checks.specs.Checks.{Check, check, firstFault}
 use Rattle.format.specs.Headers.{magic, noHash}
 use Rattle.block.specs.Order.{volumeLimit, sumWrong}
-use Rattle.volume.specs.declared.LastTime.{LastTime}
-use Rattle.volume.specs.declared.LastTime.the-variants.{Never, At}
+use Rattle.volume.specs.declared.LastTime.the-variants.{Never}
 use Rattle.volume.specs.declared.Bookmark.{Bookmark}
 use Rattle.volume.specs.declared.Refusal.{Refusal}
-use Rattle.volume.specs.declared.Header.{Header}
 use Rattle.volume.specs.declared.HeaderAnswer.{HeaderAnswer}
 use Rattle.volume.specs.declared.HeaderAnswer.the-variants.{Accepted, Refused}
 

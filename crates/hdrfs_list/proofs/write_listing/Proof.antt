@@ -10,7 +10,6 @@ use Rattle.number.specs.Number.{put}
 use Rattle.number.proofs.Put.{length-put, part-put}
 use Rattle.volume.specs.declared.Refusal.{Refusal}
 use Rattle.listing.specs.Listing.{listLimit, listing, listAnswer}
-use Rattle.listing.specs.declared.ListAnswer.{ListAnswer}
 use Rattle.listing.specs.declared.ListAnswer.the-variants.{Written, Refused}
 use Rattle.listing.proofs.Room.{listing-short, listing-fits}
 use Rattle.hdrfs_list.proofs.write_listing.Statement.{statement}

@@ -1,5 +1,4 @@
 -- The volume that is chosen is the one whose length is compared.
-use mathlib.Core.Path.{sym, _∙_}
 use borrow.Author.Tests.{eq-eqb, ne-eqb}
 use Rattle.lookup.specs.Fetch.{chosen}
 use borrow.Author.Needs.{needs}

@@ -1,6 +1,6 @@
 -- What is left to check is the check from the bookmark reached, after the blocks passed. Each block takes at least a byte, so
 -- the blocks passed are no more than the offset.
-use Prim.Native.Nat.{ℕ, suc, _+_, _-_, _≤_, _<_}
+use Prim.Native.Nat.{ℕ, suc, _-_, _≤_, _<_}
 use native.Mathlib.Numerals.{add-one}
 use native.Mathlib.Omega.{arith}
 use mathlib.Core.Path.{_≡_, refl, sym, ap, _∙_}
@@ -10,9 +10,7 @@ use borrow.Author.Needs.{needs}
 use Rattle.volume.specs.Reading.{readAnswer}
 use Rattle.volume.specs.Checking.{judge, checkFrom}
 use Rattle.volume.specs.declared.Bookmark.{Bookmark}
-use Rattle.volume.specs.declared.Found.{Found}
 use Rattle.volume.specs.declared.ReadAnswer.{ReadAnswer}
-use Rattle.volume.specs.declared.ReadAnswer.the-variants.{Found as Block, End, Refused}
 use Rattle.volume.proofs.Steps.{read-further, check-step}
 use Rattle.volume.proofs.checking.check_from.Statement.{statement}
 use Rattle.volume.proofs.checking.check_from.Tie as tie
