@@ -1,4 +1,5 @@
 // Runs vectors from outside against the library and prints what it answers; the file stdout has what it must print.
+mod listings;
 mod sums;
 mod texts;
 mod volumes;
@@ -10,5 +11,6 @@ fn main() {
     texts::too_long();
     texts::surrogates_and_above();
     texts::cut_and_stray();
+    listings::too_long();
     volumes::all();
 }
