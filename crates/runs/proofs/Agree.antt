@@ -13,7 +13,8 @@ use Rattle.extent.specs.Extents.{extentAt}
 use Rattle.runs.specs.declared.Place.the-variants.{Hole, Stored}
 use Rattle.runs.specs.Positions.{rawByte, storedAt, copyOf, keeper}
 use Rattle.runs.specs.Runs.{label, IsRuns, done, run, runNumbers, rangeNumbers}
-use Rattle.runs.specs.Answers.{placeOf, Agrees, over, holeRun, storedRun}
+use Rattle.runs.specs.Answers.{placeOf}
+use Rattle.runs.specs.Agree.{Agrees, over, holeFirst, storedFirst}
 use Rattle.runs.proofs.Stored.{keeps-position}
 use Rattle.runs.proofs.Keeper.{keeper-some, place-hole, place-is}
 use Rattle.runs.proofs.Labels.{label-none, label-some, none-label, some-label}
@@ -56,8 +57,8 @@ module _ (list : List ℕ) where
   agrees (done l) = over l
   agrees {from} {to} (run {len = len} {lengths = lengths} pos within all stop rest) =
       option-cases (keeper list from)
-      (λ h. rw h (holeRun pos within (holes from len all h) (agrees rest)))
-      (λ i h. rw h (storedRun pos within (row-of from len all i h) (agrees rest)))
+      (λ h. rw h (holeFirst pos within (holes from len all h) (agrees rest)))
+      (λ i h. rw h (storedFirst pos within (row-of from len all i h) (agrees rest)))
 
   pub runs-agree-with-positions : (size from to : ℕ) → Agrees list from (min to size) (rangeNumbers list size from to)
   unfolding rangeNumbers

@@ -2,7 +2,7 @@
 use Prim.Native.Nat.{ℕ, zero, suc, _+_, _-_, _≤_, _<_}
 use mathlib.Core.Path.{_≡_, refl, sym, ap, _∙_}
 use mathlib.Core.Bool.{Bool, true, false, and-eq-true-iff}
-use mathlib.Core.Logic.{_⊎_, inl, inr, ⊎-elim}
+use mathlib.Core.Logic.{⊎-elim}
 use mathlib.Core.List.{List, [], _∷_}
 use mathlib.Mathlib.Data.Bool.Basic.{dichotomy}
 use native.Mathlib.Nat.{add-zero}
@@ -29,87 +29,17 @@ same-eq (stored i a) (stored j b) h =
     let q = eqb-true a b (f .1) in
     cc
 
-same : (x y : Label) → x ≡ y → sameLabel x y ≡ true
-same x y e = rw e (same-refl y)
-
-other : (x y : Label) → (y ≡ x → ⊥) → sameLabel x y ≡ false
-other x y d = ⊎-elim (λ q. q) (λ q. absurd (d (sym (same-eq x y q)))) (dichotomy (sameLabel x y))
-
+-- the last position is a run by itself
 joins-nothing : (b : Bool) → joins b [] ≡ 1 ∷ []
 unfolding joins
 joins-nothing true = refl
 joins-nothing false = refl
 
-joins-some : (b : Bool) (lengths : List ℕ) → 0 < length (joins b lengths)
-unfolding joins
-joins-some true [] = omega arith
-joins-some true (len ∷ lengths) = omega arith
-joins-some false lengths = omega arith
-
 module _ (list : List ℕ) where
-  -- the last position, and one before another label, is a run by itself
-  run-alone : (from count : ℕ) → (count ≡ 0) ⊎ (label list (suc from) ≡ label list from → ⊥)
-      → runsOf list from (suc count) ≡ 1 ∷ runsOf list (suc from) count
-  unfolding runsOf joins
-  run-alone from count (inl e) =
-      rw e (joins-nothing (sameLabel (label list from) (label list (suc from))))
-  run-alone from count (inr d) = simp (other (label list from) (label list (suc from)) d)
-
-  -- a position before a run of its label makes that run longer
-  run-longer : (from len count : ℕ) (lengths : List ℕ) → label list (suc from) ≡ label list from
-      → runsOf list (suc from) count ≡ len ∷ lengths → runsOf list from (suc count) ≡ suc len ∷ lengths
-  unfolding runsOf joins
-  run-longer from len count lengths e h = simp (same (label list from) (label list (suc from)) (sym e), h)
-
-  -- positions of one label, up to one of another label or to the last, are the first run
-  stretch : (len from count : ℕ) → ((k : ℕ) → k < suc len → label list (from + k) ≡ label list from)
-      → (count ≡ 0) ⊎ (label list (from + suc len) ≡ label list from → ⊥)
-      → runsOf list from (suc len + count) ≡ suc len ∷ runsOf list (from + suc len) count
-  stretch zero from count all stop =
-      let a : suc zero + count ≡ suc count = omega arith in
-      let b : from + suc zero ≡ suc from = omega arith in
-      rw (a, b) (run-alone from count (rw b at stop))
-  stretch (suc len) from count all stop =
-      let a : suc (suc len) + count ≡ suc (suc len + count) = omega arith in
-      let b : from + suc (suc len) ≡ suc from + suc len = omega arith in
-      let c : from + suc zero ≡ suc from = omega arith in
-      let e : label list (suc from) ≡ label list from = rw c at (all (suc zero) (omega arith)) in
-      rw (a, b)
-      (run-longer from (suc len) (suc len + count) (runsOf list (suc from + suc len) count) e
-      (stretch len (suc from) count
-      (λ k l. let d : from + suc k ≡ suc from + k = omega arith in (rw d at (all (suc k) (omega arith))) ∙ sym e)
-      (⊎-elim inl (λ q. inr (λ h. q (rw b (h ∙ e)))) stop)))
-
-  -- the same of a range
-  pub first-run : (len from to : ℕ) → 0 < len → from + len ≤ to
-      → ((k : ℕ) → k < len → label list (from + k) ≡ label list from)
-      → (from + len < to → label list (from + len) ≡ label list from → ⊥)
-      → runLengths list from to ≡ len ∷ runLengths list (from + len) to
-  unfolding runLengths
-  first-run zero from to some within all stop = absurd (omega arith)
-  first-run (suc len) from to some within all stop =
-      let e : to - from ≡ suc len + (to - (from + suc len)) = omega arith in
-      rw e
-      (stretch len from (to - (from + suc len)) all
-      (cases (from + suc len) to (λ l. inr (stop l)) (λ l. inl (omega arith))))
-
   -- an empty range has no run
   pub no-run : (from to : ℕ) → to ≤ from → runLengths list from to ≡ []
   unfolding runLengths runsOf
   no-run from to l = let e : to - from ≡ 0 = omega arith in rw e
-
-  -- a range that is not empty has a run
-  pub some-run : (from to : ℕ) → from < to → 0 < length (runLengths list from to)
-  unfolding runLengths runsOf
-  some-run from to l =
-      let e : to - from ≡ suc (to - suc from) = omega arith in
-      rw e (joins-some (sameLabel (label list from) (label list (suc from))) (runsOf list (suc from) (to - suc from)))
-
-  -- lengths of runs are those that are computed
-  pub runs-only : {from to : ℕ} {lengths : List ℕ} → IsRuns list from to lengths → lengths ≡ runLengths list from to
-  runs-only {from} {to} (done l) = sym (no-run from to l)
-  runs-only {from} {to} (run {len = len} some within all stop rest) =
-      ap (λ (ls : List ℕ). len ∷ ls) (runs-only rest) ∙ sym (first-run len from to some within all stop)
 
   -- a position before the runs of a range: it is a run by itself
   alone : (from to : ℕ) (lengths : List ℕ) → from < to → (from + 1 < to → label list (from + 1) ≡ label list from → ⊥)
@@ -144,7 +74,7 @@ module _ (list : List ℕ) where
       ⊎-elim
       (λ q. rw q
       (alone from to (len ∷ lengths) l
-      (λ h d. let e : from + 1 ≡ suc from = omega arith in never (same _ _ (sym d ∙ ap (label list) e)) q)
+      (λ h d. let e : from + 1 ≡ suc from = omega arith in never (rw (← d, e) (same-refl (label list (suc from)))) q)
       (run some within all stop rest)))
       (λ q. rw q (longer from to len lengths (sym (same-eq _ _ q)) (run some within all stop rest)))
       (dichotomy (sameLabel (label list from) (label list (suc from))))
@@ -164,3 +94,36 @@ module _ (list : List ℕ) where
       cases from to
       (λ l. let e : from + (to - from) ≡ to = omega arith in rw e at (so-many (to - from) from))
       (λ l. rw (no-run from to l) (done l))
+
+  -- a range that is not empty has a run
+  pub some-run : (from to : ℕ) → from < to → 0 < length (runLengths list from to)
+  some-run from to l = go (runs-are-runs from to)
+    where
+      go : {lengths : List ℕ} → IsRuns list from to lengths → 0 < length lengths
+      go (done m) = absurd (omega arith)
+      go (run pos within all stop rest) = omega arith
+
+  -- two partitions into longest stretches have the same lengths: where one stretch is shorter, it is not the longest
+  runs-unique : {from to : ℕ} {lengths others : List ℕ}
+      → IsRuns list from to lengths → IsRuns list from to others → lengths ≡ others
+  runs-unique (done l) (done m) = refl
+  runs-unique (done l) (run pos within all stop rest) = absurd (omega arith)
+  runs-unique (run pos within all stop rest) (done m) = absurd (omega arith)
+  runs-unique (run {len = a} pos within all stop rest) (run {len = b} {lengths = others} pos′ within′ all′ stop′ rest′) =
+      cases a b
+      (λ l. absurd (stop (omega arith) (all′ a l)))
+      (λ l. cases b a
+      (λ m. absurd (stop′ (omega arith) (all b m)))
+      (λ m. let e : a ≡ b = omega arith in rw e (ap (λ (ls : List ℕ). b ∷ ls) (runs-unique (rw e at rest) rest′))))
+
+  -- lengths of runs are those that are computed
+  pub runs-only : {from to : ℕ} {lengths : List ℕ} → IsRuns list from to lengths → lengths ≡ runLengths list from to
+  runs-only {from} {to} runs = runs-unique runs (runs-are-runs from to)
+
+  -- the first run of a range
+  pub first-run : (len from to : ℕ) → 0 < len → from + len ≤ to
+      → ((k : ℕ) → k < len → label list (from + k) ≡ label list from)
+      → (from + len < to → label list (from + len) ≡ label list from → ⊥)
+      → runLengths list from to ≡ len ∷ runLengths list (from + len) to
+  first-run len from to some within all stop =
+      sym (runs-only (run some within all stop (runs-are-runs (from + len) to)))

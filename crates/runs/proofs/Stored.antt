@@ -1,6 +1,6 @@
 -- Where an extent stores a position that it keeps: one law for both multiplicities. Assumes nothing.
 use Prim.Native.Nat.{ℕ, zero, suc, _+_, _*_, _/_, _%_, _<_}
-use mathlib.Core.Path.{_≡_, refl, sym}
+use mathlib.Core.Path.{_≡_, refl, sym, ap}
 use mathlib.Core.Bool.{Bool, true, false, cond, and-eq-true-iff}
 use mathlib.Core.Logic.{⊎-elim}
 use mathlib.Mathlib.Data.Bool.Basic.{dichotomy}
@@ -62,7 +62,8 @@ module _ (e : Extent) (position : ℕ) (sound : isSound e ≡ true) (kept : keep
   unfolding storedAt copyOf
   stored-place =
       let b = eqb (e .multiplicity) 82 in
-      let place : storedAt e position ≡ e .start .0 + rawByte e position % footprint e = rw (place-mod b) in
+      let place : storedAt e position ≡ e .start .0 + rawByte e position % footprint e
+      = ap (λ (at : ℕ). e .start .0 + at) (place-mod b) in
       record {
         some = some-footprint b;
         place = place;

@@ -1,4 +1,5 @@
 pub mod Positions
 pub mod Runs
 pub mod Answers
+pub mod Agree
 pub mod Steps
