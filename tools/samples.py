@@ -209,6 +209,91 @@ def check(v):
         last = last if time is None else time
 
 
+# ---- an independent lookup, position by position
+
+def extents(v, offset):
+    n = int.from_bytes(v[offset + 63:offset + 71], "little")
+    raw = v[offset + 71:offset + 71 + n]
+    return [struct.unpack("<QQQBQQQQ", raw[i:i + 57]) for i in range(0, n, 57)]
+
+
+def kept(e):
+    volume, p, s, m, c, pre, post, q = e
+    return s * c - pre - post
+
+
+def lookup_fault(v, offset, lengths):
+    if len(lengths) % 8 or len(lengths) > 8 * 4096:
+        return 9
+    fault, end, _ = read_block(v, offset, False, None)
+    if fault or end is None:
+        return fault or 2
+    if v[offset] != 1 or int.from_bytes(v[offset + 17:offset + 19], "little") // 4096 != 8:
+        return 15
+    for e in extents(v, offset):
+        volume, p, s, m, c, pre, post, q = e
+        if kept(e) == 0:
+            continue
+        if volume >= len(lengths) // 8:
+            return 16
+        if p + (s if m == 82 else s * c) > int.from_bytes(lengths[8 * volume:8 * volume + 8], "little"):
+            return 16
+    return 0
+
+
+def stored(v, offset, position):
+    """(extent, copy, volume, offset), or None for a hole."""
+    for i, e in enumerate(extents(v, offset)):
+        volume, p, s, m, c, pre, post, q = e
+        if q <= position < q + kept(e):
+            r = pre + position - q
+            return (i, r // s, volume, p + r % s) if m == 82 else (i, 0, volume, p + r)
+    return None
+
+
+def size_of(v, offset):
+    return int.from_bytes(v[offset + 55:offset + 63], "little")
+
+
+def position(v, offset, lengths, at):
+    fault = lookup_fault(v, offset, lengths)
+    if fault:
+        return f"refused {fault}"
+    if at >= size_of(v, offset):
+        return "past end"
+    place = stored(v, offset, at)
+    return "hole" if place is None else f"volume {place[2]} offset {place[3]}"
+
+
+def runs(v, offset, lengths, a, b, room):
+    """The answer, and what a list of nines then holds."""
+    fault = lookup_fault(v, offset, lengths)
+    if fault:
+        return f"refused {fault}", [9] * room
+    found, label = [], None
+    for at in range(a, min(b, size_of(v, offset))):
+        place = stored(v, offset, at)
+        if found and label == (place and place[:2]):
+            found[-1][1] += 1
+        else:
+            found.append([at, 1, 0, 0, 0] if place is None else [at, 1, 1, *place[2:]])
+            label = place and place[:2]
+        if 5 * len(found) > room:
+            return "refused 17", [9] * room
+    numbers = [n for run in found for n in run]
+    return f"{len(found)} runs", numbers + [9] * (room - len(numbers))
+
+
+def fetch(first, second, number, offset, n):
+    fault = header_fault(first) or header_fault(second)
+    if fault:
+        return f"{fault} []"
+    for v in (first, second):
+        if int.from_bytes(v[36:44], "little") == number:
+            return "16 []" if offset + n > len(v) else f"0 [{v[offset:offset + n].decode()}]"
+    return "16 []"
+
+
 # ---- the samples
 
 def damaged(v, at, value):
@@ -223,6 +308,16 @@ EIGHT = (header(1, bytes([9] * 32)) + table([(8, 1, b"gauge"), (9, 1, b"log")])
          + xattr(6, b"unit", b"m\xFF") + removed(7, b"unit") + data(8, b"1,5") + rename(9, b"gauge", b"p\xC3\xA9gel"))
 
 
+# the files of the lookups: A, A with post 2, B, a folder, two that are not there, one that keeps nothing, one of 2^63 copies
+A_AT, POST_AT, B_AT, FOLDER_AT, BEYOND_AT, OTHER_AT, NOTHING_AT, COPIES_AT, GAUGE_END = 104, 236, 368, 500, 575, 707, 839, 971, 1103
+GAUGE = (V + inode(8, REGULAR, extent(0, 97, 3), 3) + inode(9, REGULAR, extent(0, 97, 3, post=2), 3)
+         + inode(10, REGULAR, extent(0, 97, 3, 82, 3, 1, 1, 4), 14) + inode(11, FOLDER)
+         + inode(12, REGULAR, extent(0, 102, 3), 3) + inode(13, REGULAR, extent(1, 97, 3), 3)
+         + inode(14, REGULAR, extent(9, TOP, 0, 82, TOP), 3)
+         + inode(15, REGULAR, extent(0, 97, 1, 82, 2**63), TOP))
+LATER = header(1, bytes([9] * 32)) + table([]) + data(1, b"2,5")
+
+
 def many_extents(n):
     return header() + inode(1, REGULAR, b"".join(extent(0, 0, 1, 67, 1, 0, 0, (i * 617) % n) for i in range(n)), n)
 
@@ -233,6 +328,8 @@ SAMPLES = [
     ("v", V),
     ("all_kinds", EIGHT),
     ("extents_1024", many_extents(1024)),
+    ("gauge", GAUGE),
+    ("later", LATER),
     ("empty_names", header() + link(1, b"") + removed(2, b"") + rename(3, b"", b"") + xattr(4, b"", b"") + data(5, b"")),
     ("empty_table", header(1) + table([])),
     ("ranges_touch", header() + inode(1, REGULAR, extent(0, 0, 3) + extent(0, 0, 2, logical=3), 5)),
@@ -280,6 +377,34 @@ SAMPLES = [
 ]
 
 
+# ---- the lookups that the program makes, in its order
+
+ONE = struct.pack("<Q", 104)
+POSITIONS = [(A_AT, ONE, 0), (A_AT, ONE, 2), (A_AT, ONE, 3), (POST_AT, ONE, 0), (POST_AT, ONE, 1),
+             (B_AT, ONE, 3), (B_AT, ONE, 4), (B_AT, ONE, 6), (B_AT, ONE, 10), (B_AT, ONE, 11), (B_AT, ONE, TOP),
+             (FOLDER_AT, ONE, 0), (80, ONE, 0), (BEYOND_AT, ONE, 0), (BEYOND_AT, ONE, 9), (OTHER_AT, ONE, 0),
+             (NOTHING_AT, ONE, 2), (COPIES_AT, ONE, 2**63 - 1), (COPIES_AT, ONE, 2**63),
+             (GAUGE_END, ONE, 0), (79, ONE, 0), (A_AT, b"", 0), (A_AT, ONE[:7], 0), (FOLDER_AT, ONE + b"\0", 0)]
+RANGES = [(A_AT, ONE, 0, 3, 6), (POST_AT, ONE, 0, 3, 11), (B_AT, ONE, 0, 14, 25), (B_AT, ONE, 0, 14, 24), (B_AT, ONE, 0, 14, 26),
+          (B_AT, ONE, 5, 10, 16), (B_AT, ONE, 13, TOP, 5), (B_AT, ONE, 14, 20, 1), (B_AT, ONE, 7, 7, 1), (B_AT, ONE, 9, 4, 1),
+          (NOTHING_AT, ONE, 0, 3, 5), (COPIES_AT, ONE, 0, TOP, 30), (COPIES_AT, ONE, 5, 8, 15),
+          (BEYOND_AT, ONE, 9, 9, 3), (FOLDER_AT, ONE, 0, 0, 0)]
+FETCHES = [(GAUGE, LATER, 0, 97, 3), (GAUGE, LATER, 1, 110, 3), (LATER, GAUGE, 0, 97, 3), (GAUGE, LATER, 2, 97, 3),
+           (GAUGE, LATER, 0, GAUGE_END, 0), (GAUGE, LATER, 0, GAUGE_END, 1), (GAUGE, LATER, 0, TOP, TOP),
+           (GAUGE, V, 0, 1000, 0), (V, GAUGE, 0, 1000, 0), (GAUGE, damaged(header(), 16, 1), 0, 97, 3),
+           (b"", damaged(header(), 16, 1), 0, 97, 3)]
+
+
+def lookup_rows():
+    for offset, lengths, at in POSITIONS:
+        yield f"inode at {offset}, position {at}: {position(GAUGE, offset, lengths, at)}"
+    for offset, lengths, a, b, room in RANGES:
+        answer, numbers = runs(GAUGE, offset, lengths, a, b, room)
+        yield f"inode at {offset}, {a} to {b}, room {room}: {answer}" + "".join(f" {n}" for n in numbers)
+    for first, second, number, offset, n in FETCHES:
+        yield f"fetch {n} at {offset} of volume {number}: {fetch(first, second, number, offset, n)}"
+
+
 def main():
     root = pathlib.Path("crates/samples")
     folder = root / "data"
@@ -289,10 +414,11 @@ def main():
     for name, volume in SAMPLES:
         (folder / f"{name}.vol").write_bytes(volume)
     (root / "args").write_text("".join(f"{name}.vol\n" for name, _ in SAMPLES))
-    # the lines before those of the volumes are kept
-    kept = [line for line in (root / "stdout").read_text().splitlines() if ".vol: " not in line]
+    # the lines before those of the lookups are kept: vectors from outside, and the listing
+    lines = (root / "stdout").read_text().splitlines()
+    first = next(i for i, line in enumerate(lines) if ".vol: " in line or line.startswith("inode at "))
     rows = [f"{name}.vol: {check(volume)}" for name, volume in SAMPLES]
-    (root / "stdout").write_text("\n".join(kept + rows) + "\n")
+    (root / "stdout").write_text("\n".join(lines[:first] + list(lookup_rows()) + rows) + "\n")
 
 
 main()

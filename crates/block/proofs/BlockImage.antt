@@ -128,12 +128,17 @@ length-image block keeps =
 pub record Reads (volume : List ℕ) (offset : ℕ) (block : Block) : Type 0 where
   pub id : idAt volume offset ≡ idOf (kindOf block)
   pub no-fault : firstFault (kindOrder (kindOf block) volume offset) ≡ 0
+  pub values : fieldsAt (kindOf block) volume offset ≡ fields block
+  pub body-length : bodyLength (kindOf block) volume offset ≡ length (body block)
   pub same : shown volume (blockOf (kindOf block) volume offset) ≡ block
   pub end : bodyEnd (kindOf block) volume offset + 4 ≡ offset + length (image block)
 
 module _ (block : Block) (volume : List ℕ) (offset : ℕ) (rest : List ℕ) (keeps : BlockRules block) (e : drop offset volume ≡ image block ++ rest) where
   -- where an image stands, so do its ID, its fixed fields and its variable parts
-  parts-stand : (idAt volume offset ≡ idOf (kindOf block)) × Accepts volume offset block
+  parts-stand :
+      (idAt volume offset ≡ idOf (kindOf block))
+      × (fieldsAt (kindOf block) volume offset ≡ fields block)
+      × Accepts volume offset block
   unfolding image sealed le
   parts-stand =
       let kind : Kind = kindOf block in
@@ -148,6 +153,7 @@ module _ (block : Block) (volume : List ℕ) (offset : ℕ) (rest : List ℕ) (k
       let next : suc offset + t ≡ offset + before kind = omega arith in
       let values = fields-stand kind volume offset (fields block) (body block ++ after) (keeps .fit) d1 in (
         ap le (part-at volume (idOf kind ∷ []) (fixed ++ (body block ++ after)) offset 1 d0 refl) ∙ omega arith,
+        values,
         accepts block volume offset after keeps values (rw next at d2),
       )
 
@@ -156,7 +162,7 @@ module _ (block : Block) (volume : List ℕ) (offset : ℕ) (rest : List ℕ) (k
   block-complete =
       let kind : Kind = kindOf block in
       let bytes : List ℕ = idOf kind ∷ laid (widths kind) (fields block) ++ body block in
-      let p : Accepts volume offset block = parts-stand .1 in
+      let p : Accepts volume offset block = parts-stand .2 in
       let n : bodyLength kind volume offset ≡ length (body block) = p .body-length in
       let i : length (image block) ≡ before kind + length (body block) + 4 = length-image block keeps in
       let c : length (image block) ≡ length bytes + 4 = length-sealed bytes in
@@ -181,6 +187,8 @@ module _ (block : Block) (volume : List ℕ) (offset : ℕ) (rest : List ℕ) (k
             (miss (t .once) clear)))))))
             )
             );
+        values = parts-stand .1;
+        body-length = n;
         same = p .same;
         end = omega arith;
       }

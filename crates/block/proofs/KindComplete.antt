@@ -43,11 +43,11 @@ two-parts volume start m n a b rest d k l =
     let after : drop (start + m) volume ≡ b ++ rest = drop-past volume a (b ++ rest) start m e (sym k) in
     (one-part volume start m a (b ++ rest) e k, part-at volume b rest (start + m) n after (sym l))
 
-text : (bytes : List ℕ) → WellFormed bytes → not (isText bytes) ≡ false
+pub text : (bytes : List ℕ) → WellFormed bytes → not (isText bytes) ≡ false
 text bytes w = ap not (text-iff-well-formed bytes .1 w)
 
 -- an inode, by file type
-inode-tests : (type : FileType) (size : ℕ) (rest : List ℕ) → InodeRules type size rest
+pub inode-tests : (type : FileType) (size : ℕ) (rest : List ℕ) → InodeRules type size rest
     → (tooLong type (length rest) ≡ false)
     × (targetNotText type rest ≡ false)
     × (inodeBroken type size (length rest) rest ≡ false)

@@ -98,11 +98,11 @@ pub record Passes (kind : Kind) (volume : List ℕ) (offset : ℕ) : Type 0 wher
   pub apart : rangesOverlap kind volume offset ≡ false
   pub once : linkTwice kind volume offset ≡ false
 
-text : (bytes : List ℕ) → not (isText bytes) ≡ false → WellFormed bytes
+pub text : (bytes : List ℕ) → not (isText bytes) ≡ false → WellFormed bytes
 text bytes e = text-iff-well-formed bytes .0 (not-false _ e)
 
 -- an inode, by file type
-inode-rules : (type : FileType) (size n : ℕ) (rest : List ℕ) → Bytes rest → length rest ≡ n
+pub inode-rules : (type : FileType) (size n : ℕ) (rest : List ℕ) → Bytes rest → length rest ≡ n
     → tooLong type n ≡ false → targetNotText type rest ≡ false → inodeBroken type size n rest ≡ false → rangesMeet type rest ≡ false
     → InodeRules type size rest
 inode-rules regular size n rest b l few texts sound apart =

@@ -5,3 +5,4 @@ pub mod Standing
 pub mod KindSound
 pub mod KindComplete
 pub mod BlockImage
+pub mod SameBlock

@@ -35,8 +35,8 @@ const MAX_LIST_LEN: u64 = 58368;
 // The size of a file that is not regular, without a target.
 const BARE_SIZE: u64 = 70;
 
-// Whether a regular file's list is longer than is allowed; only regular files have this limit.
-fn is_too_long(mode: u16, n: u64) -> bool
+// Internal: whether a regular file's list is longer than is allowed; only regular files have this limit.
+pub fn is_too_long(mode: u16, n: u64) -> bool
     ensures { λ r. ⌜ r ≡ tooLong (fileType mode) n ⌝ }
 {
     match mode / 4096 {
@@ -88,8 +88,8 @@ fn other_fault(size: u64, rest: &[u8]) -> u64
     0
 }
 
-// The first fault of an inode's size and n bytes, by file type.
-fn rest_fault(mode: u16, size: u64, rest: &[u8]) -> u64
+// Internal: the first fault of an inode's size and n bytes, by file type.
+pub fn rest_fault(mode: u16, size: u64, rest: &[u8]) -> u64
     requires { ⌜ tooLong (fileType mode) (length (now rest)) ≡ false ⌝ }
     ensures { λ r. ⌜ r ≡ firstFault (restOrder (fileType mode) size (length (now (rest .entry))) (now (rest .entry))) ⌝ }
 {

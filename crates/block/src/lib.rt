@@ -2,9 +2,10 @@
 //
 // There is no bookmark here: everything goes by the volume's bytes and plain numbers. Calls: `block_fault`, the first
 // fault of a block; `decode`, the block where there is none; `sum_wrong`, the test of a checksum. `volume` calls them.
-// Each kind of block has a file, with its checks and its decoding; `numbers` names the refusals.
+// Each kind of block has a file, with its checks and its decoding; `request` calls the checks of an inode's n bytes, which
+// are the same in writing. `numbers` names the refusals.
 mod data;
-mod inode;
+pub mod inode;
 mod link;
 pub mod numbers;
 mod rename;

@@ -1,4 +1,4 @@
-// The numbers that calls refuse with, each with its meaning, and the limits of a volume.
+// The numbers that calls refuse with, each with its meaning, and the limits of a volume and of a table.
 
 // The volume has more bytes than are allowed.
 pub const TOO_LARGE: u64 = 1;
@@ -16,11 +16,11 @@ pub const HASH_NOT_ZERO: u64 = 6;
 pub const ID_UNKNOWN: u64 = 7;
 // The offset lies in the header, or a table is missing where it is due, or stands where it is not.
 pub const OUT_OF_PLACE: u64 = 8;
-// More extents or links than are allowed.
+// More extents, links or volume lengths than are allowed; in writing, a name, value or path too long for its length field.
 pub const OVER_LIMIT: u64 = 9;
 // A name, a path or a link target is not UTF-8.
 pub const NOT_TEXT: u64 = 10;
-// Another rule on an inode's fields is broken.
+// Another rule on an inode's fields is broken, or link bytes to write are not exactly the stated links.
 pub const RULE_BROKEN: u64 = 11;
 // Two extents of a file keep the same position.
 pub const RANGES_OVERLAP: u64 = 12;
@@ -28,15 +28,20 @@ pub const RANGES_OVERLAP: u64 = 12;
 pub const LINK_TWICE: u64 = 13;
 
 pub const TIME_NOT_GREATER: u64 = 14;
-
+// The block is not the inode of a regular file.
+pub const NOT_REGULAR_FILE: u64 = 15;
 // A volume or a range that is asked for is not there.
 pub const NOT_THERE: u64 = 16;
-
 // The result is longer than the lent room.
 pub const ROOM_TOO_SMALL: u64 = 17;
+// An extent keeps a byte of a block of size 0. No call gives it: such an extent keeps nothing.
+pub const STRAY: u64 = 18;
 
 // The most bytes that a volume may have.
 pub const VOLUME_LIMIT: usize = 16777216;
 
 // Blocks begin after the header.
 pub const HEADER_LEN: usize = 80;
+
+// The most links that a table may have.
+pub const MAX_LINKS: u64 = 4096;

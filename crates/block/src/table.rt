@@ -5,6 +5,7 @@ use crate::Part;
 use crate::TableBlock;
 use crate::numbers::CUT_SHORT;
 use crate::numbers::LINK_TWICE;
+use crate::numbers::MAX_LINKS;
 use crate::numbers::NOT_TEXT;
 use crate::numbers::OVER_LIMIT;
 use crate::seal::sealed_fault;
@@ -19,8 +20,6 @@ ghost use Rattle.block.specs.Shown.{decodedOf};
 ghost use Rattle.block.specs.Fields.{bodyEnd, fieldAt};
 ghost use Rattle.links.specs.Links.{linkStart};
 ghost use Rattle.block.specs.Parts.{sealedOrder, linksOrder};
-
-const MAX_LINKS: u64 = 4096;
 
 // How many bytes the links from `from` on take.
 fn len_of_links(volume: &[u8], from: usize, count: u64) -> usize

@@ -1,16 +1,10 @@
 // Volumes from the folder data, one for each argument: what the check of the whole volume answers.
-use libc::STDOUT_FILENO;
+use crate::files::load;
+use crate::printing::print_number;
+use crate::printing::print_word;
 use volume::Accepted;
 use volume::Rejected;
 use volume::Verdict;
-
-fn print_word(word: &[u8]) {
-    io::write_all(STDOUT_FILENO, word);
-}
-
-fn print_number(number: u64) {
-    io::print_decimal(STDOUT_FILENO, number);
-}
 
 fn print_accepted(v: Accepted) {
     print_word(b": accepted, volume ");
@@ -41,14 +35,8 @@ fn print_verdict(volume: &[u8]) {
 
 // The row of one volume, read from the file of this name.
 fn row(name: &[u8]) {
-    let fd = os::open_read(name);
-    if fd < 0 {
-        os::fail(name);
-        return;
-    }
     let mut buf = [0u8; 65536];
-    let n = io::read_full(fd, &mut buf);
-    libc::close(fd);
+    let n = load(name, &mut buf);
     print_word(name);
     print_verdict(&buf[..n]);
 }

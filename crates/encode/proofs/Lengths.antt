@@ -1,0 +1,41 @@
+-- How long images are: as long as the layouts say. Assumes nothing.
+use Prim.Native.Nat.{ℕ, _+_}
+use mathlib.Core.Path.{_≡_, refl, _∙_}
+use mathlib.Core.List.{List, _∷_, _++_}
+use native.Mathlib.Omega.{arith}
+use lib.ListN.{length, length-append}
+use Rattle.number.proofs.Digits.{length-leBytes}
+use Rattle.format.specs.Layout.{total, Fit, laid}
+use Rattle.format.specs.Blocks.{Kind, inodeBlock, linkBlock, unlinkBlock, xattrBlock, removedXattrBlock, dataBlock, renameBlock, linkTable, idOf, widths}
+use Rattle.format.specs.Headers.{Header, headerFields, headerImage}
+use Rattle.format.proofs.Fields.{length-laid}
+use Rattle.format.proofs.Seal.{length-sealed}
+use Rattle.encode.specs.Images.{imageOf, sizeOf}
+
+-- ID, fixed fields and CRC
+size-is : (kind : Kind) → 1 + total (widths kind) + 4 ≡ sizeOf kind
+size-is inodeBlock = refl
+size-is linkBlock = refl
+size-is unlinkBlock = refl
+size-is xattrBlock = refl
+size-is removedXattrBlock = refl
+size-is dataBlock = refl
+size-is renameBlock = refl
+size-is linkTable = refl
+
+pub length-imageOf : (kind : Kind) (values body : List ℕ) → Fit (widths kind) values
+    → length (imageOf kind values body) ≡ sizeOf kind + length body
+length-imageOf kind values body fit =
+    let fixed : List ℕ = laid (widths kind) values in
+    length-sealed (idOf kind ∷ fixed ++ body)
+    ∙ omega (arith, length-append fixed body, length-laid (widths kind) values fit, size-is kind)
+
+pub length-headerFields : (header : Header) → length (header .id) ≡ 16 → length (header .previous) ≡ 32
+    → length (headerFields header) ≡ 76
+unfolding headerFields
+length-headerFields header h k = simp (length-append, length-leBytes, h, k)
+
+pub length-headerImage : (header : Header) → length (header .id) ≡ 16 → length (header .previous) ≡ 32
+    → length (headerImage header) ≡ 80
+unfolding headerImage
+length-headerImage header h k = length-sealed (headerFields header) ∙ omega (arith, length-headerFields header h k)

@@ -1,0 +1,97 @@
+-- What a lookup that is not refused knows: the block is the inode of a regular file, its extents keep their rules, and what
+-- they name is there. Assumes nothing.
+use Prim.Native.Nat.{ℕ, _+_, _%_, _≤_, _<_}
+use mathlib.Core.Path.{_≡_, refl}
+use mathlib.Core.Bool.{true, false, false≢true, not}
+use mathlib.Mathlib.Data.Bool.Basic.{or-eq-false-eq-eq-false-and-eq-false as both-false}
+use mathlib.Core.List.{List}
+use native.Mathlib.Omega.{arith}
+use lib.Dec.{leb, eqb}
+use lib.ListN.{length, length-take}
+use borrow.Author.Tests.{lt-ltb, ltb-false, leb-false, not-false}
+use Rattle.checks.specs.Checks.{firstFault}
+use Rattle.checks.proofs.Laws.{passed, passed-part}
+use Rattle.checks.proofs.Scan.{any-false}
+use Rattle.format.specs.declared.Extent.{Extent}
+use Rattle.format.specs.Extents.{keptLength, footprint}
+use Rattle.format.specs.Blocks.{Kind, inodeBlock, linkBlock, unlinkBlock, xattrBlock, removedXattrBlock, dataBlock, renameBlock, linkTable, FileType, regular, symbolicLink, other}
+use Rattle.extent.specs.Extents.{extentAt, extentCount, someBroken, someOverlap}
+use Rattle.block.specs.Fields.{kindAt, typeAt, restAt, bodyLength, bodyEnd}
+use Rattle.block.specs.Order.{overCount, ruleBroken, rangesOverlap, kindOrder, blockOrder}
+use Rattle.block.proofs.Faults.{kind-clear}
+use Rattle.block.proofs.Places.{block-within}
+use Rattle.lookup.specs.Lookup.{entryCount, lengthOf, lengthsWrong, isFile, notFile, isAbsent, someAbsent, lookupOrder, lookupFault}
+
+-- a sound block that is the inode of a regular file
+pub record RegularFile (volume : List ℕ) (offset : ℕ) : Type 0 where
+  pub kind : kindAt volume offset ≡ inodeBlock
+  pub type : typeAt volume offset ≡ regular
+  -- it ends, with its CRC, within the volume
+  pub whole : bodyEnd inodeBlock volume offset + 4 ≤ length volume
+  -- its extents keep the rules of one extent, no position is kept twice, and there are at most 1,024
+  pub sound : someBroken (restAt volume offset) ≡ false
+  pub apart : someOverlap (restAt volume offset) ≡ false
+  pub few : length (restAt volume offset) ≤ 58368
+
+-- what a lookup without a fault knows
+pub record Clear (volume : List ℕ) (offset : ℕ) (lengths : List ℕ) : Type 0 where
+  pub lengths-right : lengthsWrong lengths ≡ false
+  pub file : RegularFile volume offset
+  pub none-absent : someAbsent lengths (restAt volume offset) ≡ false
+
+is-file : (kind : Kind) (type : FileType) → isFile kind type ≡ true → (kind ≡ inodeBlock) × (type ≡ regular)
+is-file inodeBlock regular e = (refl, refl)
+is-file inodeBlock symbolicLink e = absurd (false≢true e)
+is-file inodeBlock other e = absurd (false≢true e)
+is-file linkBlock type e = absurd (false≢true e)
+is-file unlinkBlock type e = absurd (false≢true e)
+is-file xattrBlock type e = absurd (false≢true e)
+is-file removedXattrBlock type e = absurd (false≢true e)
+is-file dataBlock type e = absurd (false≢true e)
+is-file renameBlock type e = absurd (false≢true e)
+is-file linkTable type e = absurd (false≢true e)
+
+-- the checks of the block and of its kind and file type tell all of that
+pub regular-file : (volume : List ℕ) (offset : ℕ) → firstFault (blockOrder volume offset false) ≡ 0 → notFile volume offset ≡ false
+    → RegularFile volume offset
+unfolding notFile overCount ruleBroken rangesOverlap
+regular-file volume offset e n =
+    let f = is-file (kindAt volume offset) (typeAt volume offset) (not-false _ n) in
+    let clear : firstFault (kindOrder (kindAt volume offset) volume offset) ≡ 0 = kind-clear volume offset false e in
+    let c : firstFault (kindOrder inodeBlock volume offset) ≡ 0 = rw (f .0) at clear in
+    let n : bodyLength inodeBlock volume offset ≤ 58368
+    = ltb-false _ _ (rw (f .1) at (passed 1 (kindOrder inodeBlock volume offset) tt c)) in
+    record {
+      kind = f .0;
+      type = f .1;
+      whole = block-within inodeBlock volume offset (f .0) clear;
+      sound = both-false (not (eqb (bodyLength inodeBlock volume offset % 57) 0)) _ .0 (rw (f .1) at (passed 5 (kindOrder inodeBlock volume offset) tt c)) .1;
+      apart = rw (f .1) at (passed 6 (kindOrder inodeBlock volume offset) tt c);
+      few = simp length-take (omega arith);
+    }
+
+pub a-lookup-without-a-fault-is-clear : (volume : List ℕ) (offset : ℕ) (lengths : List ℕ) → lookupFault volume offset lengths ≡ 0
+    → Clear volume offset lengths
+unfolding lookupFault
+a-lookup-without-a-fault-is-clear volume offset lengths e =
+    record {
+      lengths-right = passed 0 (lookupOrder volume offset lengths) tt e;
+      file =
+          regular-file volume offset (passed-part 1 13 (lookupOrder volume offset lengths) tt e)
+          (passed 14 (lookupOrder volume offset lengths) tt e);
+      none-absent = passed 15 (lookupOrder volume offset lengths) tt e;
+    }
+
+-- no extent of a list is absent
+pub each-present : (lengths list : List ℕ) → someAbsent lengths list ≡ false
+    → (i : ℕ) → i < extentCount list → isAbsent lengths (extentAt list i) ≡ false
+unfolding someAbsent
+each-present lengths list h i l = any-false (λ i. isAbsent lengths (extentAt list i)) (extentCount list) h i l
+
+-- one that keeps something names an entry, and its place lies within that volume's length
+pub present : (lengths : List ℕ) (e : Extent) → isAbsent lengths e ≡ false → 0 < keptLength e
+    → (e .volume < entryCount lengths) × (e .start .0 + footprint e ≤ lengthOf lengths (e .volume))
+unfolding isAbsent
+present lengths e h k =
+    let b = both-false (leb (entryCount lengths) (e .volume)) _ .0 (rw (lt-ltb 0 (keptLength e) k) at h) in
+    (leb-false _ _ (b .0), ltb-false _ _ (b .1))

@@ -1,0 +1,118 @@
+-- What a position lookup and a range query answer.
+use Prim.Native.Nat.{ℕ, _+_, _*_, _/_, _%_}
+use mathlib.Core.Bool.{Bool, true, false, not, cond, _&&_, _||_}
+use mathlib.Core.Option.{Option, none, some}
+use mathlib.Core.List.{List, [], _∷_, _++_}
+use lib.Dec.{leb, ltb, eqb}
+use lib.ListN.{length}
+use Rattle.number.specs.Number.{numberAt, put}
+use Rattle.checks.specs.Checks.{Check, check, firstFault}
+use Rattle.checks.specs.Scan.{anyBelow}
+use Rattle.format.specs.declared.Extent.{Extent}
+use Rattle.format.specs.Extents.{keptLength, footprint}
+use Rattle.format.specs.Blocks.{Kind, inodeBlock, linkBlock, unlinkBlock, xattrBlock, removedXattrBlock, dataBlock, renameBlock, linkTable, FileType, regular, symbolicLink, other}
+use Rattle.extent.specs.Extents.{extentAt, extentCount}
+use Rattle.block.specs.Fields.{kindAt, typeAt, sizeAt, restAt}
+use Rattle.block.specs.Order.{blockOrder}
+use Rattle.volume.specs.Heading.{refusalOf}
+use Rattle.runs.specs.Positions.{storedAt, keeper}
+use Rattle.runs.specs.Runs.{runCount, rangeNumbers}
+use Rattle.lookup.specs.declared.PositionAnswer.{PositionAnswer}
+use Rattle.lookup.specs.declared.PositionAnswer.the-variants.{Hole, PastEnd, Stored, Refused}
+use Rattle.lookup.specs.declared.RunsAnswer.{RunsAnswer}
+use Rattle.lookup.specs.declared.RunsAnswer.the-variants.{Runs, Refused as RunsRefused}
+
+-- the lengths of the volumes: 8 bytes each, entry i for sequence number i
+abbrev pub entryCount : (lengths : List ℕ) → ℕ
+entryCount lengths = length lengths / 8
+
+abbrev pub lengthOf : (lengths : List ℕ) (volume : ℕ) → ℕ
+lengthOf lengths volume = numberAt lengths (8 * volume) 8
+
+-- 9: bytes that are no whole entries, or over 4,096 entries
+unfoldable pub lengthsWrong : (lengths : List ℕ) → Bool
+lengthsWrong lengths = not (eqb (length lengths % 8) 0) || ltb 4096 (entryCount lengths)
+
+abbrev pub isRegular : FileType → Bool
+isRegular regular = true
+isRegular symbolicLink = false
+isRegular other = false
+
+-- whether a block of this kind and file type is a regular file's inode
+abbrev pub isFile : Kind → FileType → Bool
+isFile inodeBlock type = isRegular type
+isFile linkBlock type = false
+isFile unlinkBlock type = false
+isFile xattrBlock type = false
+isFile removedXattrBlock type = false
+isFile dataBlock type = false
+isFile renameBlock type = false
+isFile linkTable type = false
+
+-- 15: the block isn't a regular file's inode
+unfoldable pub notFile : (volume : List ℕ) (offset : ℕ) → Bool
+notFile volume offset = not (isFile (kindAt volume offset) (typeAt volume offset))
+
+-- an extent that keeps something and names no entry, or a place that reaches beyond that volume's length
+unfoldable pub isAbsent : (lengths : List ℕ) → Extent → Bool
+isAbsent lengths e =
+    ltb 0 (keptLength e)
+    && (leb (entryCount lengths) (e .volume) || ltb (lengthOf lengths (e .volume)) (e .start .0 + footprint e))
+
+-- 16: a volume or a range that isn't there, for any extent of the file
+unfoldable pub someAbsent : (lengths list : List ℕ) → Bool
+someAbsent lengths list = anyBelow (λ i. isAbsent lengths (extentAt list i)) (extentCount list)
+
+-- 18: a kept byte in a block of size 0
+unfoldable pub isStray : Extent → Bool
+isStray e = ltb 0 (keptLength e) && eqb (e .size) 0
+
+unfoldable pub someStray : (list : List ℕ) → Bool
+someStray list = anyBelow (λ i. isStray (extentAt list i)) (extentCount list)
+
+-- the checks of a lookup: 9, the block's own with nothing due and no last time, 15, 16, 18
+abbrev pub lookupOrder : (volume : List ℕ) (offset : ℕ) (lengths : List ℕ) → List Check
+lookupOrder volume offset lengths =
+    check (lengthsWrong lengths) 9
+    ∷ (blockOrder volume offset false
+    ++ (check (notFile volume offset) 15
+    ∷ check (someAbsent lengths (restAt volume offset)) 16
+    ∷ check (someStray (restAt volume offset)) 18
+    ∷ []))
+
+unfoldable pub lookupFault : (volume : List ℕ) (offset : ℕ) (lengths : List ℕ) → ℕ
+lookupFault volume offset lengths = firstFault (lookupOrder volume offset lengths)
+
+-- where a position below the size is stored, or that it is a hole
+abbrev pub placeFor : (list : List ℕ) (position : ℕ) → Option ℕ → PositionAnswer
+placeFor list position none = Hole
+placeFor list position (some i) =
+    Stored (record { volume = extentAt list i .volume; offset = record { 0 = storedAt (extentAt list i) position } })
+
+unfoldable pub positionAnswer : (volume : List ℕ) (offset : ℕ) (lengths : List ℕ) (position : ℕ) → PositionAnswer
+positionAnswer volume offset lengths position =
+    cond (eqb (lookupFault volume offset lengths) 0)
+    (cond (ltb position (sizeAt volume offset)) (placeFor (restAt volume offset) position (keeper (restAt volume offset) position)) PastEnd)
+    (Refused (refusalOf (lookupFault volume offset lengths)))
+
+-- the checks of a range query: those of a lookup, then 17
+abbrev pub runsOrder : (volume : List ℕ) (offset : ℕ) (lengths : List ℕ) (from to room : ℕ) → List Check
+runsOrder volume offset lengths from to room =
+    lookupOrder volume offset lengths
+    ++ (check (ltb room (5 * runCount (restAt volume offset) (sizeAt volume offset) from to)) 17 ∷ [])
+
+unfoldable pub runsFault : (volume : List ℕ) (offset : ℕ) (lengths : List ℕ) (from to room : ℕ) → ℕ
+runsFault volume offset lengths from to room = firstFault (runsOrder volume offset lengths from to room)
+
+unfoldable pub runsAnswer : (volume : List ℕ) (offset : ℕ) (lengths : List ℕ) (from to room : ℕ) → RunsAnswer
+runsAnswer volume offset lengths from to room =
+    cond (eqb (runsFault volume offset lengths from to room) 0)
+    (Runs (runCount (restAt volume offset) (sizeAt volume offset) from to))
+    (RunsRefused (refusalOf (runsFault volume offset lengths from to room)))
+
+-- what the lent list then holds: five numbers for each run, and past them what it held before; on refusal all of that
+unfoldable pub runsRoom : (volume : List ℕ) (offset : ℕ) (lengths : List ℕ) (from to : ℕ) (out : List ℕ) → List ℕ
+runsRoom volume offset lengths from to out =
+    cond (eqb (runsFault volume offset lengths from to (length out)) 0)
+    (put out 0 (rangeNumbers (restAt volume offset) (sizeAt volume offset) from to))
+    out
