@@ -405,6 +405,47 @@ def lookup_rows():
         yield f"fetch {n} at {offset} of volume {number}: {fetch(first, second, number, offset, n)}"
 
 
+# ---- the volume that the program writes: each call with its image, or with the number that refuses it
+
+EXTENTS = extent(0, 97, 3) + extent(0, 97, 3, 82, 3, 1, 1, 4)
+WRITTEN = [("header, ID of 15 bytes", 11), ("header, hash of 33 bytes", 11), ("header of volume 0 with a hash", 6), ("header in 79 bytes", 17),
+           ("header", header(1, bytes([9] * 32))),
+           ("data where a table is due", 8), ("table of 4,097 links", 9), ("table with one link more", 11), ("table with one link less", 11),
+           ("table, name not text", 10), ("table, link twice", 13), ("table", table([(8, 1, b"gauge"), (9, 1, b"log")])), ("second table", 8),
+           ("inode of 1,025 extents", 9), ("inode, 56 bytes", 11), ("inode, multiplicity 0", 11), ("inode, ranges overlap", 12),
+           ("inode", inode(1, REGULAR, EXTENTS, 14)),
+           ("target not text", 10), ("target of another size", 11), ("symbolic link", inode(2, LINK, b"gauge", 75)),
+           ("folder with a byte", 11), ("folder at an earlier time", 14), ("folder at the same time", 14), ("folder", inode(3, FOLDER)),
+           ("link, name of 65,536 bytes", 9), ("link", link(4, b"gauge")), ("unlink, name not text", 10), ("unlink", link(5, b"log", 3)),
+           ("xattr, name of 256 bytes", 9), ("xattr", xattr(6, b"unit", b"m\xFF")), ("removed xattr", removed(7, b"unit")),
+           ("data", data(8, b"1,5")), ("rename, new path not text", 10), ("rename", rename(9, b"gauge", b"p\xC3\xA9gel")),
+           ("data without room", 17), ("data at 79", 8), ("table where none is due", 8), ("data after the last time of all", 14),
+           ("data past the limit", 1)]
+
+
+def listed(v):
+    yield "offset id length"
+    offset, due, last, blocks = 80, v[36:44] != bytes(8), None, 0
+    while offset < len(v):
+        _, end, time = read_block(v, offset, due, last)
+        yield f"{offset} {v[offset]} {end - offset}"
+        offset, due, last, blocks = end, False, last if time is None else time, blocks + 1
+    yield f"end {offset} blocks {blocks}"
+
+
+def written_rows():
+    volume = b""
+    for call, outcome in WRITTEN:
+        if isinstance(outcome, int):
+            yield f"write {call}: refused {outcome}"
+        else:
+            volume += outcome
+            yield f"write {call}: next {len(volume)}"
+    assert volume == EIGHT
+    yield "written: the bytes of all_kinds.vol"
+    yield from listed(EIGHT)
+
+
 def main():
     root = pathlib.Path("crates/samples")
     folder = root / "data"
@@ -418,7 +459,7 @@ def main():
     lines = (root / "stdout").read_text().splitlines()
     first = next(i for i, line in enumerate(lines) if ".vol: " in line or line.startswith("inode at "))
     rows = [f"{name}.vol: {check(volume)}" for name, volume in SAMPLES]
-    (root / "stdout").write_text("\n".join(lines[:first] + list(lookup_rows()) + rows) + "\n")
+    (root / "stdout").write_text("\n".join(lines[:first] + list(lookup_rows()) + list(written_rows()) + rows) + "\n")
 
 
 main()

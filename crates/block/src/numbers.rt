@@ -20,7 +20,8 @@ pub const OUT_OF_PLACE: u64 = 8;
 pub const OVER_LIMIT: u64 = 9;
 // A name, a path or a link target is not UTF-8.
 pub const NOT_TEXT: u64 = 10;
-// Another rule on an inode's fields is broken, or link bytes to write are not exactly the stated links.
+// Another rule on an inode's fields is broken; in writing, an ID or a hash of another length, or link bytes that are not
+// exactly the stated links.
 pub const RULE_BROKEN: u64 = 11;
 // Two extents of a file keep the same position.
 pub const RANGES_OVERLAP: u64 = 12;

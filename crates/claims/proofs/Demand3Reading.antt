@@ -35,12 +35,12 @@ header-given volume given = go (header-answers volume)
     go (rejects f) e = let z : _≡_ {A = ℕ} 0 1 = cc in absurd (omega arith)
 
 -- what the reader gives is the header that stands there, and the blocks of the calls from the bookmark after it
-record Given (volume : List ℕ) (reading : Reading) (end : Bookmark) : Type 0 where
-  no-fault : headerFault volume ≡ 0
-  same-header : headerAt volume ≡ reading .header
-  calls : Calls volume (firstMark (sequenceOf volume)) (reading .blocks) end
+pub record Given (volume : List ℕ) (reading : Reading) (end : Bookmark) : Type 0 where
+  pub no-fault : headerFault volume ≡ 0
+  pub same-header : headerAt volume ≡ reading .header
+  pub calls : Calls volume (firstMark (sequenceOf volume)) (reading .blocks) end
 
-given : (volume : List ℕ) (reading : Reading) (end : Bookmark) → ReaderGives volume reading end → Given volume reading end
+pub given : (volume : List ℕ) (reading : Reading) (end : Bookmark) → ReaderGives volume reading end → Given volume reading end
 unfolding partAnswer
 given volume reading end g =
     let h = header-given volume _ (g .header) in
@@ -69,7 +69,7 @@ header-and-calls volume blocks end b f calls =
     }
 
 -- what the reader gives is a reading
-gives-reading : (volume : List ℕ) (reading : Reading) (end : Bookmark) → Bytes volume → ReaderGives volume reading end
+pub gives-reading : (volume : List ℕ) (reading : Reading) (end : Bookmark) → Bytes volume → ReaderGives volume reading end
     → ReadingOf volume reading
 gives-reading volume reading end b g =
     let h : Given volume reading end = given volume reading end g in
@@ -77,7 +77,7 @@ gives-reading volume reading end b g =
     (header-and-calls volume (reading .blocks) end b (h .no-fault) (h .calls))
 
 -- and a reading is what it gives
-reading-gives : (volume : List ℕ) (reading : Reading) → length volume ≤ 16777216 → ReadingOf volume reading
+pub reading-gives : (volume : List ℕ) (reading : Reading) → length volume ≤ 16777216 → ReadingOf volume reading
     → ReaderGives volume reading (afterAll (firstMark (reading .header .sequence)) (reading .blocks))
 unfolding volumeOf headerAnswer partAnswer
 reading-gives volume reading small r =
@@ -101,7 +101,7 @@ reading-gives volume reading small r =
     }
 
 -- the check counts what the reader gives
-check-answers : (volume : List ℕ) (reading : Reading) (end : Bookmark) → ReaderGives volume reading end
+pub check-answers : (volume : List ℕ) (reading : Reading) (end : Bookmark) → ReaderGives volume reading end
     → checkAnswer volume
     ≡ verdict.Accepted (record { sequence = reading .header .sequence; blocks = length (reading .blocks); end = end })
 unfolding checkAnswer afterHeader

@@ -1,3 +1,12 @@
 pub mod Walk
 pub mod Reader
 pub mod Demand3Reading
+pub mod Sofar
+pub mod Appends
+pub mod Starts
+pub mod Afresh
+pub mod Demand3
+pub mod File
+pub mod Ranges
+pub mod Demand2
+pub mod Samples

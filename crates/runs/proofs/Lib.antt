@@ -8,4 +8,3 @@ pub mod Walk
 pub mod Sort
 pub mod Fill
 pub mod Room
-pub mod Samples

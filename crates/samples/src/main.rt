@@ -6,6 +6,7 @@ mod printing;
 mod sums;
 mod texts;
 mod volumes;
+mod writing;
 
 fn main() {
     sums::all();
@@ -16,5 +17,6 @@ fn main() {
     texts::cut_and_stray();
     listings::too_long();
     lookups::all();
+    writing::all();
     volumes::all();
 }

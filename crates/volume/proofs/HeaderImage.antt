@@ -32,7 +32,7 @@ headerAt volume = record { id = idOf volume; sequence = sequenceOf volume; previ
 
 -- From the checks to the image.
 
-hash-rule : (sequence : ℕ) (previous : List ℕ) → hashWrong sequence previous ≡ false → sequence ≡ 0 → previous ≡ noHash
+pub hash-rule : (sequence : ℕ) (previous : List ℕ) → hashWrong sequence previous ≡ false → sequence ≡ 0 → previous ≡ noHash
 hash-rule zero previous e z = same-equal previous noHash (not-false _ e)
 hash-rule (suc n) previous e z = absurd (omega arith)
 
@@ -94,7 +94,7 @@ module _ (volume : List ℕ) (b : Bytes volume) (e : headerFault volume ≡ 0) w
 
 -- From the image to the checks.
 
-hash-right : (sequence : ℕ) (previous : List ℕ) → (sequence ≡ 0 → previous ≡ noHash) → hashWrong sequence previous ≡ false
+pub hash-right : (sequence : ℕ) (previous : List ℕ) → (sequence ≡ 0 → previous ≡ noHash) → hashWrong sequence previous ≡ false
 hash-right zero previous rule = rw (rule refl) (ap not (same-refl noHash))
 hash-right (suc n) previous rule = rw (eqb·suc-zero n)
 

@@ -2,3 +2,5 @@ pub mod Whole
 pub mod Steps
 pub mod HeaderImage
 pub mod OneCall
+pub mod Appending
+pub mod Writers

@@ -42,26 +42,26 @@ pub record Allowed (mark : Bookmark) (block : Block) : Type 0 where
 abbrev pub after : Bookmark → Block → Bookmark
 after mark block = markAfter (mark .offset + length (image block)) (mark .last) (timeOf block)
 
-follows : (last : LastTime) (time : Option ℕ) → mayFollow last time ≡ true → TimeFollows (asOption last) time
+pub follows : (last : LastTime) (time : Option ℕ) → mayFollow last time ≡ true → TimeFollows (asOption last) time
 unfolding mayFollow
 follows Never none e = tt
 follows Never (some time) e = tt
 follows (At last) none e = tt
 follows (At last) (some time) e = ltb-true last time e
 
-may-follow : (last : LastTime) (time : Option ℕ) → TimeFollows (asOption last) time → mayFollow last time ≡ true
+pub may-follow : (last : LastTime) (time : Option ℕ) → TimeFollows (asOption last) time → mayFollow last time ≡ true
 unfolding mayFollow
 may-follow last none h = refl
 may-follow Never (some time) h = refl
 may-follow (At last) (some time) h = lt-ltb last time h
 
-right-place : (due table : Bool) → not (Bool·beq due table) ≡ false → due ≡ table
+pub right-place : (due table : Bool) → not (Bool·beq due table) ≡ false → due ≡ table
 right-place true true e = refl
 right-place true false e = absurd (false≢true (sym e))
 right-place false true e = absurd (false≢true (sym e))
 right-place false false e = refl
 
-place-right : (due table : Bool) → due ≡ table → not (Bool·beq due table) ≡ false
+pub place-right : (due table : Bool) → due ≡ table → not (Bool·beq due table) ≡ false
 place-right true table e = rw (← e)
 place-right false table e = rw (← e)
 

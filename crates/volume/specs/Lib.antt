@@ -1,3 +1,4 @@
 pub mod Heading
 pub mod Reading
 pub mod Checking
+pub mod Writing

@@ -1,14 +1,17 @@
-// The header: what it answers, and the parts that it hands out.
+// The header: what reading it answers, the parts that it hands out, and writing it.
 use crate::Bookmark;
 use crate::Header;
 use crate::HeaderAnswer;
 use crate::LastTime;
+use crate::WriteAnswer;
 use crate::refuse;
 use block::numbers::CHECKSUM_WRONG;
 use block::numbers::CUT_SHORT;
 use block::numbers::HASH_NOT_ZERO;
 use block::numbers::HEADER_LEN;
 use block::numbers::MAGIC_WRONG;
+use block::numbers::ROOM_TOO_SMALL;
+use block::numbers::RULE_BROKEN;
 use block::numbers::TOO_LARGE;
 use block::numbers::VERSION_UNKNOWN;
 use block::numbers::VOLUME_LIMIT;
@@ -16,15 +19,20 @@ ghost use mathlib.Core.Path.{_≡_};
 ghost use Prim.Native.Nat.{_-_, _≤_};
 ghost use lib.ListN.{length};
 ghost use Rattle.checks.specs.Checks.{firstFault};
-ghost use Rattle.volume.specs.Heading.{sequenceOf, previousOf, hashWrong, fieldOrder, headerFault, firstMark, headerAnswer, partAnswer};
+ghost use Rattle.volume.specs.Heading.{hashWrong, fieldOrder, headerFault, firstMark, headerAnswer, partAnswer};
+ghost use Rattle.volume.specs.Writing.{writeFault, writeAnswer, writeBuffer};
 
-// Whether the header is that of volume 0 and has a previous hash.
-fn hash_wrong(volume: &[u8]) -> bool
-    requires { ⌜ 80 ≤ length (now volume) ⌝ }
-    ensures { λ r. ⌜ r ≡ hashWrong (sequenceOf (now (volume .entry))) (previousOf (now (volume .entry))) ⌝ }
+// The lengths of a file system ID and of a hash.
+const ID_LEN: usize = 16;
+
+const HASH_LEN: usize = 32;
+
+// Whether the volume is volume 0 and has a previous hash.
+fn hash_wrong(sequence: u64, previous: &[u8]) -> bool
+    ensures { λ r. ⌜ r ≡ hashWrong sequence (now (previous .entry)) ⌝ }
 {
-    if number::read_u64(volume, 36) == 0 {
-        return !number::same_bytes(&volume[44..76], &[0u8; 32]);
+    if sequence == 0 {
+        return !number::same_bytes(previous, &[0u8; 32]);
     }
     false
 }
@@ -49,7 +57,7 @@ fn field_fault(volume: &[u8]) -> u64
     if block::sum_wrong(volume, 0, 76) {
         return CHECKSUM_WRONG;
     }
-    if hash_wrong(volume) {
+    if hash_wrong(number::read_u64(volume, 36), &volume[44..76]) {
         return HASH_NOT_ZERO;
     }
     0
@@ -115,4 +123,39 @@ pub fn previous_hash(volume: &[u8]) -> &[u8]
     ensures { λ r. ⌜ now r ≡ partAnswer (now (volume .entry)) 44 32 ⌝ }
 {
     handed_out(volume, 44, 76)
+}
+
+// The first fault of a header to write, or 0.
+fn write_fault(room: usize, id: &[u8], sequence: u64, previous: &[u8]) -> u64
+    ensures { λ r. ⌜ r ≡ writeFault room
+        (record { id = now (id .entry); sequence = sequence; previous = now (previous .entry) }) ⌝ }
+{
+    if id.len() != ID_LEN {
+        return RULE_BROKEN;
+    }
+    if previous.len() != HASH_LEN {
+        return RULE_BROKEN;
+    }
+    if hash_wrong(sequence, previous) {
+        return HASH_NOT_ZERO;
+    }
+    if room < HEADER_LEN {
+        return ROOM_TOO_SMALL;
+    }
+    0
+}
+
+// Writes a header at the beginning of the buffer: the bookmark after it, or the refusal, which leaves the buffer as it was.
+pub fn write_header(buf: &mut [u8], id: &[u8], sequence: u64, previous: &[u8]) -> WriteAnswer
+    ensures answer { λ r. ⌜ r ≡ writeAnswer (length (now (buf .entry)))
+        (record { id = now (id .entry); sequence = sequence; previous = now (previous .entry) }) ⌝ }
+    ensures buffer { λ _. ⌜ now (buf .exit) ≡ writeBuffer (now (buf .entry))
+        (record { id = now (id .entry); sequence = sequence; previous = now (previous .entry) }) ⌝ }
+{
+    let fault = write_fault(buf.len(), id, sequence, previous);
+    if fault != 0 {
+        return WriteAnswer::Refused(refuse(fault));
+    }
+    encode::write_header(buf, id, sequence, previous);
+    WriteAnswer::Next(first_mark(sequence))
 }

@@ -1,9 +1,12 @@
-// Reading an HDRFS volume: its header, its blocks by bookmark, and the whole-volume check.
+// Reading and writing an HDRFS volume: its header, its blocks by bookmark, and the whole-volume check.
 //
-// Public calls: read_header, file_system_id, previous_hash, Bookmark::read, check.
+// Public calls: read_header, file_system_id, previous_hash, Bookmark::read, check; write_header, and the methods of a
+// bookmark that append a block: append_inode, append_link, append_unlink, append_xattr, append_removed_xattr,
+// append_data, append_rename, append_table.
 pub mod checking;
 pub mod heading;
 pub mod reading;
+pub mod writing;
 
 use block::Block;
 ghost use mathlib.Core.Path.{_≡_};
@@ -68,6 +71,12 @@ pub struct Rejected {
 pub enum Verdict {
     Accepted(Accepted),
     Refused(Rejected),
+}
+
+// The bookmark after what was written, or the refusal.
+pub enum WriteAnswer {
+    Next(Bookmark),
+    Refused(Refusal),
 }
 
 // Internal: the one place that makes a refusal.

@@ -47,14 +47,26 @@ sum-wrong-requires c κs = search needs
 returns-5 : tie.Need-returns-5
 returns-5 c = decided (search walks depth 12)
 
+read-u64-requires : tie.Need-read-u64-requires
+read-u64-requires c κs = search needs
+
+sub-hash-wrong : tie.Need-sub-hash-wrong
+sub-hash-wrong c = search needs
+
+part-hash-wrong-start : tie.Need-part-hash-wrong-start
+part-hash-wrong-start c = search needs
+
+part-hash-wrong-end : tie.Need-part-hash-wrong-end
+part-hash-wrong-end c = search needs
+
 hash-wrong-requires : tie.Need-hash-wrong-requires
 hash-wrong-requires c κs = search needs
 
 returns-6 : tie.Need-returns-6
-returns-6 c = decided (search walks depth 12)
+returns-6 c = rw (← c .before .before .before .read-u64 .ensures) (decided (search walks depth 12))
 
 returns-7 : tie.Need-returns-7
-returns-7 c = decided (search walks depth 12)
+returns-7 c = rw (← c .before .before .before .read-u64 .ensures) (decided (search walks depth 12))
 
 pub field-fault-spec : {M : Type 1} → statement M
 field-fault-spec =
@@ -74,6 +86,10 @@ field-fault-spec =
     returns-4
     sum-wrong-requires
     returns-5
+    read-u64-requires
+    sub-hash-wrong
+    part-hash-wrong-start
+    part-hash-wrong-end
     hash-wrong-requires
     returns-6
     returns-7)

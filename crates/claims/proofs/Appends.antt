@@ -1,0 +1,139 @@
+-- A list of appends from a start: by the list, each is judged by the rules and the header and blocks stand in the buffer; and a block
+-- that is read in a volume is read in a longer one. Assumes nothing.
+use Prim.Native.Nat.{ℕ, _+_, _-_, _≤_}
+use mathlib.Core.Path.{_≡_, refl, sym, ap, _∙_, subst}
+use mathlib.Core.List.{List, [], _∷_, _++_, append-assoc, append-nil}
+use native.Mathlib.Omega.{arith}
+use lib.ListN.{length, drop}
+use lib.Seq.{drop-drop, drop-append-le}
+use Rattle.number.specs.Number.{Bytes, put}
+use Rattle.number.proofs.Put.{length-put, drop-put}
+use Rattle.format.specs.Layout.{All}
+use Rattle.format.specs.Blocks.{Block, image}
+use Rattle.format.specs.Readings.{Reading}
+use Rattle.block.specs.Order.{volumeLimit}
+use Rattle.block.specs.Shown.{blockAt, shown}
+use Rattle.block.proofs.SameBlock.{same-block}
+use Rattle.volume.specs.Reading.{readAnswer}
+use Rattle.request.specs.Requests.{Request}
+use Rattle.request.specs.Asking.{Sized}
+use Rattle.volume.specs.declared.Bookmark.{Bookmark}
+use Rattle.volume.specs.declared.Found.{Found}
+use Rattle.volume.specs.declared.ReadAnswer.{ReadAnswer}
+use Rattle.volume.specs.declared.ReadAnswer.the-variants as read
+use Rattle.volume.specs.declared.WriteAnswer.{WriteAnswer}
+use Rattle.volume.proofs.Steps.{foundAt, Answers, ends, finds, refuses, answers, read-further}
+use Rattle.volume.proofs.OneCall.{after, HandedOut, read-sound, Hands, read-complete}
+use Rattle.volume.proofs.Appending.{Appended, appended}
+use Rattle.volume.proofs.Appending as one
+use Rattle.claims.specs.Demand3.{Outcome, onward, answeredFirst, appends, extended, Judged, none-left, accepted, refused, StillRead}
+use Rattle.claims.proofs.Sofar.{Sofar, sofar-more, admitted-permits, permits-admitted}
+
+-- no blocks more, and blocks in two steps
+pub extended-none : (sofar : Reading) → sofar ≡ extended sofar []
+extended-none sofar = λ i. record { header = sofar .header; blocks = sym (append-nil (sofar .blocks)) i }
+
+pub extended-twice : (sofar : Reading) (block : Block) (blocks : List Block)
+    → extended (extended sofar (block ∷ [])) blocks ≡ extended sofar (block ∷ blocks)
+extended-twice sofar block blocks =
+    λ i. record { header = sofar .header; blocks = append-assoc (sofar .blocks) (block ∷ []) blocks i }
+
+-- bytes that are the same from one place on are the same from every later place on
+pub drop-later : (m n : ℕ) (a b : List ℕ) → m ≤ n → drop m a ≡ drop m b → drop n a ≡ drop n b
+drop-later m n a b h e =
+    let k : m + (n - m) ≡ n = omega arith in
+    ap (λ (i : ℕ). drop i a) (sym k) ∙ sym (drop-drop (n - m) m a) ∙ ap (drop (n - m)) e
+    ∙ drop-drop (n - m) m b ∙ ap (λ (i : ℕ). drop i b) k
+
+-- The list.
+
+pub record Claimed (buffer : List ℕ) (mark : Bookmark) (sofar : Reading) (requests : List Request) (outcome : Outcome) : Type 0 where
+  pub blocks : List Block
+  pub judged : Judged (length buffer) sofar requests (outcome .answers) blocks
+  pub stands : Sofar (outcome .buffer) (outcome .mark) (extended sofar blocks)
+  pub grows : mark .offset ≤ outcome .mark .offset
+  pub rest : drop (outcome .mark .offset) (outcome .buffer) ≡ drop (outcome .mark .offset) buffer
+
+abbrev ClaimedOf : List Request → Type 0
+ClaimedOf requests = (buffer : List ℕ) (mark : Bookmark) (sofar : Reading) → Sofar buffer mark sofar
+    → Claimed buffer mark sofar requests (appends buffer mark requests)
+
+-- one append, and then the others
+step : (request : Request) (requests : List Request) → ClaimedOf requests
+    → (buffer : List ℕ) (mark : Bookmark) (sofar : Reading) → Sofar buffer mark sofar
+    → {answer : WriteAnswer} {next : List ℕ} → Appended buffer mark request answer next
+    → Claimed buffer mark sofar (request ∷ requests) (answeredFirst answer (appends next (onward mark answer) requests))
+step request requests others buffer mark sofar s (one.accepted block a) =
+    let next : List ℕ = put buffer (mark .offset) (image block) in
+    let longer : Reading = extended sofar (block ∷ []) in
+    let c = others next (after mark block) longer (sofar-more buffer mark sofar request block s a) in
+    let outcome : Outcome = appends next (after mark block) requests in
+    let end : ℕ = mark .offset + length (image block) in
+    let grows : end ≤ outcome .mark .offset = c .grows in
+    record {
+      blocks = block ∷ c .blocks;
+      judged =
+          accepted (admitted-permits buffer mark sofar request block s a)
+          (subst (λ (room : ℕ). Judged room longer requests (outcome .answers) (c .blocks))
+          (length-put buffer (mark .offset) (image block)) (c .judged));
+      stands = subst (Sofar (outcome .buffer) (outcome .mark)) (extended-twice sofar block (c .blocks)) (c .stands);
+      grows = omega arith;
+      rest =
+          c .rest
+          ∙ drop-later end (outcome .mark .offset) next buffer grows (drop-put buffer (mark .offset) (image block) end (omega arith));
+    }
+step request requests others buffer mark sofar s (one.refused refusal n) =
+    let c = others buffer mark sofar s in
+    record {
+      blocks = c .blocks;
+      judged = refused (λ block p. n block (permits-admitted buffer mark sofar request block s p)) (c .judged);
+      stands = c .stands;
+      grows = c .grows;
+      rest = c .rest;
+    }
+
+pub claimed : (requests : List Request) → All Sized requests → ClaimedOf requests
+unfolding appends
+claimed [] sized buffer mark sofar s =
+    record {
+      blocks = [];
+      judged = none-left;
+      stands = subst (Sofar buffer mark) (extended-none sofar) s;
+      grows = omega arith;
+      rest = refl;
+    }
+claimed (request ∷ requests) sized buffer mark sofar s =
+    step request requests (claimed requests (sized .1)) buffer mark sofar s (appended buffer mark request (sized .0))
+
+-- Earlier blocks.
+
+-- a block that is handed out is the one that stands there
+found-there : (volume : List ℕ) (mark : Bookmark) (found : Found) → readAnswer volume mark ≡ read.Found found → foundAt volume mark ≡ found
+found-there volume mark found e = go (answers volume mark) e
+  where
+    go : {a : ReadAnswer} → Answers volume mark a → a ≡ read.Found found → foundAt volume mark ≡ found
+    go (ends p) q = let z : _≡_ {A = ℕ} 0 1 = cc in absurd (omega arith)
+    go (finds p f) q = cc
+    go (refuses p f) q = let z : _≡_ {A = ℕ} 0 1 = cc in absurd (omega arith)
+
+pub still-read : (volume more : List ℕ) (mark : Bookmark) (found : Found) → Bytes volume → length (volume ++ more) ≤ volumeLimit
+    → readAnswer volume mark ≡ read.Found found → StillRead volume (volume ++ more) mark found
+still-read volume more mark found b small e =
+    let offset : ℕ = mark .offset in
+    let block : Block = shown volume (found .block) in
+    let p : HandedOut volume mark found = read-sound volume mark found b e in
+    let further = read-further volume mark found e in
+    let after : List ℕ = drop (found .next .offset) volume in
+    let d : drop offset (volume ++ more) ≡ image block ++ (after ++ more)
+    = drop-append-le offset volume more (omega (arith, further .0, further .1)) ∙ ap (λ bytes. bytes ++ more) (p .same)
+    ∙ append-assoc (image block) after more in
+    let h : Hands (volume ++ more) mark block = read-complete (volume ++ more) mark block small (p .base) (p .allowed) (after ++ more) d in
+    let here : foundAt volume mark ≡ found = found-there volume mark found e in
+    let same : blockAt (volume ++ more) offset ≡ found .block
+    = same-block block (volume ++ more) volume offset (after ++ more) after (p .allowed .keeps) d (p .same)
+    ∙ ap (λ (f : Found). f .block) here in
+    let next : foundAt (volume ++ more) mark .next ≡ found .next = h .next ∙ sym (p .next) in
+    record {
+      same-place = h .answer ∙ ap read.Found (λ i. record { block = same i; next = next i });
+      same-reading = ap (shown (volume ++ more)) (sym same) ∙ h .same;
+    }

@@ -1,0 +1,179 @@
+-- Demand 3, whole: what it says of a volume, and what it says of a list of appends.
+--
+-- `writeAnswer` and `appendAnswer` are the answers of the header writer and of the appends, and `writeBuffer` and `appendBuffer` are
+-- what the buffer holds after them: these calls have the equations in their contracts. Proved in proofs/Demand3.antt.
+use Prim.Native.Nat.{ℕ, _≤_}
+use mathlib.Core.Path.{_≡_}
+use mathlib.Core.Bool.{false}
+use mathlib.Core.List.{List, [], _∷_, _++_, map}
+use lib.ListN.{length, take, drop}
+use Rattle.number.specs.Number.{Bytes}
+use Rattle.format.specs.Layout.{All}
+use Rattle.format.specs.Blocks.{Block, BlockRules}
+use Rattle.format.specs.Headers.{Header}
+use Rattle.format.specs.Readings.{Reading, Keeps, images, volumeOf, ReadingOf}
+use Rattle.block.specs.Shown.{shown}
+use Rattle.volume.specs.Heading.{firstMark}
+use Rattle.volume.specs.Reading.{readAnswer}
+use Rattle.volume.specs.Checking.{checkAnswer}
+use Rattle.request.specs.Requests.{Request}
+use Rattle.request.specs.Asking.{requestFor, Sized}
+use Rattle.volume.specs.Writing.{SizedHeader, appendAnswer, appendBuffer, writeAnswer, writeBuffer}
+use Rattle.volume.specs.declared.Bookmark.{Bookmark}
+use Rattle.volume.specs.declared.Found.{Found}
+use Rattle.volume.specs.declared.Refusal.{Refusal}
+use Rattle.volume.specs.declared.ReadAnswer.the-variants as ReadAnswer
+use Rattle.volume.specs.declared.Verdict.the-variants as Verdict
+use Rattle.volume.specs.declared.WriteAnswer.{WriteAnswer}
+use Rattle.volume.specs.declared.WriteAnswer.the-variants.{Next, Refused}
+use Rattle.claims.specs.Demand3Reading.{ReaderGives, IsAccepted, ReadingClaim}
+
+-- The calls.
+
+-- what a list of appends leaves: an answer for each, the buffer, and the last bookmark
+pub record Outcome : Type 0 where
+  pub answers : List WriteAnswer
+  pub buffer : List ℕ
+  pub mark : Bookmark
+
+-- the bookmark for the next append: the one returned; after a refusal, the one before
+abbrev pub onward : Bookmark → WriteAnswer → Bookmark
+onward mark (Next next) = next
+onward mark (Refused refusal) = mark
+
+abbrev pub answeredFirst : WriteAnswer → Outcome → Outcome
+answeredFirst answer others = record { answers = answer ∷ others .answers; buffer = others .buffer; mark = others .mark }
+
+-- the appends of a list, one after the other: buffer and bookmark go from each to the next
+unfoldable pub appends : (buffer : List ℕ) → Bookmark → List Request → Outcome
+appends buffer mark [] = record { answers = []; buffer = buffer; mark = mark }
+appends buffer mark (request ∷ requests) =
+    answeredFirst (appendAnswer (length buffer) mark request)
+    (appends (appendBuffer buffer mark request) (onward mark (appendAnswer (length buffer) mark request)) requests)
+
+-- a reading written afresh: its header, and then its blocks by one append each. The first append gets the bookmark that the header
+-- writer returns (`header-accepted` below)
+abbrev pub writtenAfresh : (buffer : List ℕ) → Reading → Outcome
+writtenAfresh buffer reading =
+    appends (writeBuffer buffer (reading .header)) (firstMark (reading .header .sequence)) (map requestFor (reading .blocks))
+
+-- the bytes below the last bookmark
+abbrev pub written : Outcome → List ℕ
+written outcome = take (outcome .mark .offset) (outcome .buffer)
+
+-- Writing a volume afresh.
+
+abbrev pub IsNext : WriteAnswer → Type 0
+IsNext (Next next) = Unit {0}
+IsNext (Refused refusal) = ⊥
+
+-- What is claimed of writing a volume afresh in a buffer.
+pub record FreshClaim (volume : List ℕ) (reading : Reading) (buffer : List ℕ) : Type 0 where
+  -- no call refuses
+  pub header-accepted : writeAnswer (length buffer) (reading .header) ≡ Next (firstMark (reading .header .sequence))
+  pub each-append-accepted : All IsNext (writtenAfresh buffer reading .answers)
+  -- what stands below the last bookmark is the volume, and nothing else has changed
+  pub same-bytes : written (writtenAfresh buffer reading) ≡ volume
+  pub rest-as-it-was : drop (length volume) (writtenAfresh buffer reading .buffer) ≡ drop (length volume) buffer
+
+-- What is claimed of a volume: acceptance, its one reading, the reader, and writing it afresh with room enough.
+pub record VolumeClaim (volume : List ℕ) : Type 0 where
+  pub reading : ReadingClaim volume
+  pub afresh : (reading : Reading) (buffer : List ℕ) → ReadingOf volume reading → length volume ≤ length buffer
+      → FreshClaim volume reading buffer
+
+-- Appending.
+
+-- Where appending starts, with the header and blocks that stand there. Either the buffer begins with an accepted volume and the
+-- bookmark is its end bookmark, or the header writer has returned the bookmark and left the buffer.
+pub data Start (buffer : List ℕ) (mark : Bookmark) : Reading → Type 0 where
+  from-volume :
+      (volume spare : List ℕ) (reading : Reading)
+      → volume ++ spare ≡ buffer
+      → IsAccepted volume
+      → ReaderGives volume reading mark
+      → Start buffer mark reading
+  from-header :
+      (before : List ℕ) (header : Header)
+      → SizedHeader header
+      → writeAnswer (length before) header ≡ Next mark
+      → writeBuffer before header ≡ buffer
+      → Start buffer mark (record { header = header; blocks = [] })
+
+-- a header and blocks with more blocks after them
+abbrev pub extended : Reading → List Block → Reading
+extended sofar blocks = record { header = sofar .header; blocks = sofar .blocks ++ blocks }
+
+-- A block may be appended after the header and blocks so far, in a buffer of so many bytes.
+pub record Permits (room : ℕ) (sofar : Reading) (request : Request) (block : Block) : Type 0 where
+  -- the request has the block's own fields, and of a table the bytes of its links and no others
+  pub asks : requestFor block ≡ request
+  -- one block longer, the reading still keeps the rules, among them that a length fits its field
+  pub keeps : Keeps (extended sofar (block ∷ []))
+  pub with-room : length (volumeOf (extended sofar (block ∷ []))) ≤ room
+  pub within-size : length (volumeOf (extended sofar (block ∷ []))) ≤ 16777216
+
+-- The answers to a list of requests after the header and blocks so far: acceptance where a block may be appended, and refusal where
+-- none may. The last list has the accepted blocks.
+pub data Judged (room : ℕ) : (sofar : Reading) → List Request → List WriteAnswer → List Block → Type 0 where
+  none-left : {sofar : Reading} → Judged room sofar [] [] []
+  accepted :
+      {sofar : Reading} {request : Request} {requests : List Request} {next : Bookmark} {answers : List WriteAnswer}
+      {block : Block} {blocks : List Block}
+      → Permits room sofar request block
+      → Judged room (extended sofar (block ∷ [])) requests answers blocks
+      → Judged room sofar (request ∷ requests) (Next next ∷ answers) (block ∷ blocks)
+  refused :
+      {sofar : Reading} {request : Request} {requests : List Request} {refusal : Refusal} {answers : List WriteAnswer}
+      {blocks : List Block}
+      → ((block : Block) → Permits room sofar request block → ⊥)
+      → Judged room sofar requests answers blocks
+      → Judged room sofar (request ∷ requests) (Refused refusal ∷ answers) blocks
+
+-- Both the reader and the check take the bytes for a volume with this reading and this end bookmark.
+pub record AcceptedVolume (volume : List ℕ) (reading : Reading) (end : Bookmark) : Type 0 where
+  pub is-reading : ReadingOf volume reading
+  pub reader : ReaderGives volume reading end
+  pub check :
+      checkAnswer volume ≡ Verdict.Accepted (record { sequence = reading .header .sequence; blocks = length (reading .blocks); end = end })
+
+-- A block that is read at a bookmark in a volume is read there in the later one too: same fields, same places of its parts, and the
+-- same bytes in them.
+pub record StillRead (volume later : List ℕ) (mark : Bookmark) (found : Found) : Type 0 where
+  pub same-place : readAnswer later mark ≡ ReadAnswer.Found found
+  pub same-reading : shown later (found .block) ≡ shown volume (found .block)
+
+-- What is claimed of a list of appends from a start.
+pub record AppendsClaim (buffer : List ℕ) (mark : Bookmark) (sofar : Reading) (requests : List Request) (outcome : Outcome) : Type 0 where
+  pub blocks : List Block
+  -- which requests are accepted, one after the other
+  pub each-accepted-exactly-if-allowed : Judged (length buffer) sofar requests (outcome .answers) blocks
+  -- what stood below the first bookmark is followed by the images of the accepted blocks
+  pub bytes-below : written outcome ≡ take (mark .offset) buffer ++ images blocks
+  -- nothing from the last bookmark on has changed
+  pub rest-as-it-was : drop (outcome .mark .offset) (outcome .buffer) ≡ drop (outcome .mark .offset) buffer
+  -- unless a table is still due, this is a volume that ends at the last bookmark
+  pub accepted-volume : outcome .mark .due ≡ false → AcceptedVolume (written outcome) (extended sofar blocks) (outcome .mark)
+  -- what could be read before is still read
+  pub earlier-blocks :
+      (at : Bookmark) (found : Found)
+      → readAnswer (take (mark .offset) buffer) at ≡ ReadAnswer.Found found
+      → StillRead (take (mark .offset) buffer) (written outcome) at found
+
+-- Demand 3: the first holds of every volume of at most 16,777,216 bytes, the second of every start and every list of appends. The
+-- third makes "its block" of a request one block.
+pub record Demand3 : Type 0 where
+  pub volumes : (volume : List ℕ) → Bytes volume → length volume ≤ 16777216 → VolumeClaim volume
+  pub lists-of-appends :
+      (buffer : List ℕ) (mark : Bookmark) (sofar : Reading) (requests : List Request)
+      → Bytes buffer
+      → All Sized requests
+      → Start buffer mark sofar
+      → AppendsClaim buffer mark sofar requests (appends buffer mark requests)
+  pub one-block-asked-for :
+      (request : Request) (a b : Block)
+      → requestFor a ≡ request
+      → BlockRules a
+      → requestFor b ≡ request
+      → BlockRules b
+      → a ≡ b

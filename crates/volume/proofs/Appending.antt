@@ -1,0 +1,168 @@
+-- One append: it is accepted exactly if it asks for a block that the rules allow at the bookmark, with room and within the size;
+-- the image then stands at the bookmark. And a header written. Assumes nothing.
+use Prim.Native.Nat.{ℕ, _+_, _≤_}
+use mathlib.Core.Path.{_≡_, refl, sym, ap, _∙_}
+use mathlib.Core.Bool.{Bool, true, false, not, cond, Bool·beq}
+use mathlib.Core.List.{List}
+use native.Mathlib.Omega.{arith}
+use lib.Dec.{eqb}
+use lib.ListN.{length}
+use borrow.Author.Tests.{ltb-false, eqb-true, eqb-false, not-false, le-ltb}
+use Rattle.number.specs.Number.{put}
+use Rattle.checks.specs.Checks.{clear, miss}
+use Rattle.checks.proofs.Laws.{passed, passed-part, decided, none-append}
+use Rattle.checks.proofs.Tests.{eq-neb}
+use Rattle.format.specs.Blocks.{Block, image}
+use Rattle.format.specs.Headers.{Header, headerImage, HeaderRules}
+use Rattle.block.specs.Order.{volumeLimit}
+use Rattle.volume.specs.Heading.{firstMark, refusalOf}
+use Rattle.volume.specs.Reading.{markAfter}
+use Rattle.request.specs.Requests.{Request, isTable, timeIn, imageIn, requestOrder}
+use Rattle.request.specs.Asking.{requestFor, Sized}
+use Rattle.volume.specs.Writing.{placeOrder, appendOrder, appendFault, appendAnswer, appendBuffer}
+use Rattle.volume.specs.Writing.{SizedHeader, writeOrder, writeFault, writeAnswer, writeBuffer}
+use Rattle.volume.specs.declared.Bookmark.{Bookmark}
+use Rattle.volume.specs.declared.Refusal.{Refusal}
+use Rattle.volume.specs.declared.WriteAnswer.{WriteAnswer}
+use Rattle.volume.specs.declared.WriteAnswer.the-variants.{Next, Refused}
+use Rattle.volume.proofs.HeaderImage.{hash-rule, hash-right}
+use Rattle.volume.proofs.OneCall.{Allowed, after, follows, may-follow, right-place, place-right}
+use Rattle.request.proofs.Asked.{blockIn, Asked, request-sound, request-complete, Agree, asked-agree}
+
+-- The checks of an append.
+
+-- the request is for a block that the rules allow at the bookmark, with room and within the size
+pub record Admitted (room : ℕ) (mark : Bookmark) (request : Request) (block : Block) : Type 0 where
+  pub asks : requestFor block ≡ request
+  pub allowed : Allowed mark block
+  pub base : 80 ≤ mark .offset
+  pub small : mark .offset + length (image block) ≤ volumeLimit
+  pub fits : mark .offset + length (image block) ≤ room
+
+module _ (room : ℕ) (mark : Bookmark) (request : Request) where
+  pub append-sound : Sized request → appendFault room mark request ≡ 0 → Admitted room mark request (blockIn request)
+  unfolding appendFault
+  append-sound s e =
+      let order = appendOrder room mark request in
+      let a : Asked request (blockIn request) = request-sound request s (passed-part 2 6 order tt e) in
+      let same : Agree request (blockIn request) = asked-agree a in
+      record {
+        asks = a .asks;
+        allowed = record {
+          place = right-place (mark .due) _ (passed 1 order tt e) ∙ same .same-place;
+          keeps = a .keeps;
+          time = rw (← same .same-time) (follows (mark .last) _ (not-false _ (passed 8 order tt e)));
+        };
+        base = ltb-false _ _ (passed 0 order tt e);
+        small = rw (← same .same-image) (ltb-false _ _ (passed 9 order tt e));
+        fits = rw (← same .same-image) (ltb-false _ _ (passed 10 order tt e));
+      }
+
+  pub append-complete : (block : Block) → Admitted room mark request block → appendFault room mark request ≡ 0
+  unfolding appendFault
+  append-complete block a =
+      let asked : Asked request block = record { asks = a .asks; keeps = a .allowed .keeps } in
+      let same : Agree request block = asked-agree asked in
+      let place : not (Bool·beq (mark .due) (isTable request)) ≡ false
+      = place-right (mark .due) (isTable request) (a .allowed .place ∙ sym (same .same-place)) in
+      let time = may-follow (mark .last) (timeIn request) (rw (same .same-time) (a .allowed .time)) in
+      let small : mark .offset + length (imageIn request) ≤ volumeLimit = rw (same .same-image) (a .small) in
+      let fits : mark .offset + length (imageIn request) ≤ room = rw (same .same-image) (a .fits) in
+      none-append (placeOrder mark (isTable request)) _ tt
+      (sym (decided (miss (le-ltb _ _ (a .base)) (miss place clear))))
+      (none-append (requestOrder request) _ tt (request-complete request block asked)
+      (sym (decided (miss (ap not time) (miss (le-ltb _ _ small) (miss (le-ltb _ _ fits) clear))))))
+
+-- the two answers, each with its reason and with what the buffer then holds
+pub data Appended (buffer : List ℕ) (mark : Bookmark) (request : Request) : WriteAnswer → List ℕ → Type 0 where
+  accepted :
+      (block : Block)
+      → Admitted (length buffer) mark request block
+      → Appended buffer mark request (Next (after mark block)) (put buffer (mark .offset) (image block))
+  refused :
+      (refusal : Refusal)
+      → ((block : Block) → Admitted (length buffer) mark request block → ⊥)
+      → Appended buffer mark request (Refused refusal) buffer
+
+pub appended : (buffer : List ℕ) (mark : Bookmark) (request : Request) → Sized request
+    → Appended buffer mark request (appendAnswer (length buffer) mark request) (appendBuffer buffer mark request)
+unfolding appendAnswer appendBuffer
+appended buffer mark request s = go (eqb (appendFault (length buffer) mark request) 0) refl
+  where
+    go : (sound : Bool) → eqb (appendFault (length buffer) mark request) 0 ≡ sound
+        → Appended buffer mark request
+        (cond sound (Next (markAfter (mark .offset + length (imageIn request)) (mark .last) (timeIn request)))
+        (Refused (refusalOf (appendFault (length buffer) mark request))))
+        (cond sound (put buffer (mark .offset) (imageIn request)) buffer)
+    go true e =
+        let a = append-sound (length buffer) mark request s (eqb-true _ _ e) in
+        let same : Agree request (blockIn request) = asked-agree (record { asks = a .asks; keeps = a .allowed .keeps }) in
+        rw (same .same-image, same .same-time) (accepted (blockIn request) a)
+    go false e = refused _ (λ block a. eqb-false _ _ e (append-complete (length buffer) mark request block a))
+
+-- and the same of a block that is known to be admitted
+pub admitted-appended : (buffer : List ℕ) (mark : Bookmark) (request : Request) (block : Block)
+    → Admitted (length buffer) mark request block
+    → (appendAnswer (length buffer) mark request ≡ Next (after mark block))
+    × (appendBuffer buffer mark request ≡ put buffer (mark .offset) (image block))
+unfolding appendAnswer appendBuffer
+admitted-appended buffer mark request block a =
+    let e = append-complete (length buffer) mark request block a in
+    let same : Agree request block = asked-agree (record { asks = a .asks; keeps = a .allowed .keeps }) in
+    (rw (e, same .same-image, same .same-time), rw (e, same .same-image))
+
+-- The header.
+
+module _ (room : ℕ) (header : Header) where
+  pub write-sound : SizedHeader header → writeFault room header ≡ 0 → HeaderRules header × (80 ≤ room)
+  unfolding writeFault
+  write-sound s e =
+      let order = writeOrder room header in (
+        record {
+          fit = s .fit;
+          id-length = eqb-true _ _ (not-false _ (passed 0 order tt e));
+          id-bytes = s .id-bytes;
+          hash-length = eqb-true _ _ (not-false _ (passed 1 order tt e));
+          hash-bytes = s .hash-bytes;
+          first = hash-rule _ _ (passed 2 order tt e);
+        },
+        ltb-false _ _ (passed 3 order tt e),
+      )
+
+  pub write-complete : HeaderRules header → 80 ≤ room → writeFault room header ≡ 0
+  unfolding writeFault
+  write-complete rules h =
+      sym (
+      decided (
+      miss (eq-neb _ _ (rules .id-length))
+      (miss (eq-neb _ _ (rules .hash-length))
+      (miss (hash-right _ _ (rules .first))
+      (miss (le-ltb _ _ h) clear)))
+      )
+      )
+
+-- a header that is accepted keeps the rules, and its image then stands first
+pub record Written (buffer : List ℕ) (header : Header) : Type 0 where
+  pub rules : HeaderRules header
+  pub room : 80 ≤ length buffer
+  pub answer : writeAnswer (length buffer) header ≡ Next (firstMark (header .sequence))
+  pub holds : writeBuffer buffer header ≡ put buffer 0 (headerImage header)
+
+pub header-written : (buffer : List ℕ) (header : Header) → HeaderRules header → 80 ≤ length buffer → Written buffer header
+unfolding writeAnswer writeBuffer
+header-written buffer header rules h =
+    let e = write-complete (length buffer) header rules h in
+    record { rules = rules; room = h; answer = rw e; holds = rw e }
+
+pub written-header : (buffer : List ℕ) (header : Header) (mark : Bookmark) → SizedHeader header
+    → writeAnswer (length buffer) header ≡ Next mark → Written buffer header
+unfolding writeAnswer
+written-header buffer header mark s = go (eqb (writeFault (length buffer) header) 0) refl
+  where
+    go : (sound : Bool) → eqb (writeFault (length buffer) header) 0 ≡ sound
+        → cond sound (Next (firstMark (header .sequence))) (Refused (refusalOf (writeFault (length buffer) header))) ≡ Next mark
+        → Written buffer header
+    go true e q =
+        let p = write-sound (length buffer) header s (eqb-true _ _ e) in
+        header-written buffer header (p .0) (p .1)
+    go false e q = let z : _≡_ {A = ℕ} 0 1 = cc in absurd (omega arith)

@@ -1,0 +1,64 @@
+-- The checks decide, by the laws that hold for every request; without a fault the image is written and the bookmark goes on.
+use mathlib.Core.Path.{refl}
+use native.Mathlib.Omega.{arith}
+use lib.ListN.{length}
+use borrow.Author.Needs.{needs}
+use Rattle.request.specs.Requests.{Inode}
+use Rattle.volume.proofs.Writers.{Told, told, room-left, refused, accepted}
+use Rattle.volume.proofs.Bookmark.append_inode.Statement.{statement}
+use Rattle.volume.proofs.Bookmark.append_inode.Tie as tie
+
+inode-fault-requires : tie.Need-inode-fault-requires
+inode-fault-requires c κs = search needs
+
+append-fault-requires : tie.Need-append-fault-requires
+append-fault-requires c κs = search needs
+
+-- what was told of this request
+here : (c : tie.After-append-fault) → let a = c .before .before .before .before .args in
+    Told (a .buf .now) (a .self) (Inode (a .inode) (a .time) (a .mode) (a .uid) (a .gid) (a .atime) (a .mtime) (a .ctime) (a .btime) (a .size) (a .rest .now)) (length (a .rest .now)) (c .append-fault .result)
+here c =
+    let a = c .before .before .before .before .args in
+    told (a .buf .now) (a .self) (Inode (a .inode) (a .time) (a .mode) (a .uid) (a .gid) (a .atime) (a .mtime) (a .ctime) (a .btime) (a .size) (a .rest .now))
+    (c .before .inode-fault .ensures (a .inode) (a .time) (a .uid) (a .gid) (a .atime) (a .mtime) (a .ctime) (a .btime)) refl (c .append-fault .ensures)
+
+refuse-requires : tie.Need-refuse-requires
+refuse-requires c κs = search needs
+
+returns : tie.Need-returns
+returns c = refused (here (c .before .before)) (c .refuse .ensures) (c .before .if1 .taken)
+
+write-inode-requires : tie.Need-write-inode-requires
+write-inode-requires c κs = omega (arith, room-left (here (c .before .before)) (c .before .if1 .left))
+
+add-mark-after : tie.Need-add-mark-after
+add-mark-after c = let f = c .before .before .before .before in omega (arith, room-left (here (f .before)) (f .if1 .left))
+
+add-mark-after-2 : tie.Need-add-mark-after-2
+add-mark-after-2 c = let f = c .before .before .before .before in omega (arith, room-left (here (f .before)) (f .if1 .left))
+
+mark-after-requires : tie.Need-mark-after-requires
+mark-after-requires c κs = search needs
+
+same-length : tie.Need-same-length
+same-length c = search needs
+
+returns-2 : tie.Need-returns-2
+returns-2 c =
+    let w = c .before .before .before in
+    accepted (here (w .before .before .before)) (w .before .before .if1 .left) (w .write-inode .ensures) (c .mark-after .ensures)
+
+pub append-inode-spec : {M : Type 1} → statement M
+append-inode-spec =
+    tie.close
+    (tie.spec
+    inode-fault-requires
+    append-fault-requires
+    refuse-requires
+    returns
+    write-inode-requires
+    add-mark-after
+    add-mark-after-2
+    mark-after-requires
+    same-length
+    returns-2)

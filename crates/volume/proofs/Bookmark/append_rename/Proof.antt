@@ -1,0 +1,74 @@
+-- The checks decide, by the laws that hold for every request; without a fault the image is written and the bookmark goes on.
+use mathlib.Core.Path.{sym}
+use Prim.Native.Nat.{_+_}
+use native.Mathlib.Omega.{arith}
+use lib.ListN.{length, length-append}
+use borrow.Author.Needs.{needs}
+use Rattle.request.specs.Requests.{Rename}
+use Rattle.volume.proofs.Writers.{Told, told, room-left, not-over, both-short, refused, accepted}
+use Rattle.volume.proofs.Bookmark.append_rename.Statement.{statement}
+use Rattle.volume.proofs.Bookmark.append_rename.Tie as tie
+
+add-body : tie.Need-add-body
+add-body c = search needs
+
+rename-fault-requires : tie.Need-rename-fault-requires
+rename-fault-requires c κs = search needs
+
+append-fault-requires : tie.Need-append-fault-requires
+append-fault-requires c κs = search needs
+
+-- what was told of this request
+here : (c : tie.After-append-fault) → let a = c .before .before .before .before .before .args in
+    Told (a .buf .now) (a .self) (Rename (a .time) (a .old .now) (a .new .now)) (length (a .old .now) + length (a .new .now)) (c .append-fault .result)
+here c =
+    let a = c .before .before .before .before .before .args in
+    told (a .buf .now) (a .self) (Rename (a .time) (a .old .now) (a .new .now))
+    (c .before .rename-fault .ensures (a .time)) (sym (length-append (a .old .now) (a .new .now))) (c .append-fault .ensures)
+
+refuse-requires : tie.Need-refuse-requires
+refuse-requires c κs = search needs
+
+returns : tie.Need-returns
+returns c = refused (here (c .before .before)) (c .refuse .ensures) (c .before .if1 .taken)
+
+write-rename-requires : tie.Need-write-rename-requires
+write-rename-requires c κs =
+    let f = c .before in
+    let a = f .before .before .before .before .before .before .args in
+    let t = here (f .before) in
+    let s = both-short 65535 65535 (length (a .old .now)) (length (a .new .now)) (not-over t (f .if1 .left)) in
+    (omega (arith, room-left t (f .if1 .left)), (omega (arith, s), omega (arith, s)))
+
+add-mark-after : tie.Need-add-mark-after
+add-mark-after c = let f = c .before .before .before .before in omega (arith, room-left (here (f .before)) (f .if1 .left))
+
+add-mark-after-2 : tie.Need-add-mark-after-2
+add-mark-after-2 c = let f = c .before .before .before .before in omega (arith, room-left (here (f .before)) (f .if1 .left))
+
+mark-after-requires : tie.Need-mark-after-requires
+mark-after-requires c κs = search needs
+
+same-length : tie.Need-same-length
+same-length c = search needs
+
+returns-2 : tie.Need-returns-2
+returns-2 c =
+    let w = c .before .before .before in
+    accepted (here (w .before .before .before)) (w .before .before .if1 .left) (w .write-rename .ensures) (c .mark-after .ensures)
+
+pub append-rename-spec : {M : Type 1} → statement M
+append-rename-spec =
+    tie.close
+    (tie.spec
+    add-body
+    rename-fault-requires
+    append-fault-requires
+    refuse-requires
+    returns
+    write-rename-requires
+    add-mark-after
+    add-mark-after-2
+    mark-after-requires
+    same-length
+    returns-2)

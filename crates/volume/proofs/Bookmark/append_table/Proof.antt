@@ -1,0 +1,64 @@
+-- The checks decide, by the laws that hold for every request; without a fault the image is written and the bookmark goes on.
+use mathlib.Core.Path.{refl}
+use native.Mathlib.Omega.{arith}
+use lib.ListN.{length}
+use borrow.Author.Needs.{needs}
+use Rattle.request.specs.Requests.{Table}
+use Rattle.volume.proofs.Writers.{Told, told, room-left, refused, accepted}
+use Rattle.volume.proofs.Bookmark.append_table.Statement.{statement}
+use Rattle.volume.proofs.Bookmark.append_table.Tie as tie
+
+table-fault-requires : tie.Need-table-fault-requires
+table-fault-requires c κs = search needs
+
+append-fault-requires : tie.Need-append-fault-requires
+append-fault-requires c κs = search needs
+
+-- what was told of this request
+here : (c : tie.After-append-fault) → let a = c .before .before .before .before .args in
+    Told (a .buf .now) (a .self) (Table (a .count) (a .links .now)) (length (a .links .now)) (c .append-fault .result)
+here c =
+    let a = c .before .before .before .before .args in
+    told (a .buf .now) (a .self) (Table (a .count) (a .links .now))
+    (c .before .table-fault .ensures) refl (c .append-fault .ensures)
+
+refuse-requires : tie.Need-refuse-requires
+refuse-requires c κs = search needs
+
+returns : tie.Need-returns
+returns c = refused (here (c .before .before)) (c .refuse .ensures) (c .before .if1 .taken)
+
+write-table-requires : tie.Need-write-table-requires
+write-table-requires c κs = omega (arith, room-left (here (c .before .before)) (c .before .if1 .left))
+
+add-mark-after : tie.Need-add-mark-after
+add-mark-after c = let f = c .before .before .before .before in omega (arith, room-left (here (f .before)) (f .if1 .left))
+
+add-mark-after-2 : tie.Need-add-mark-after-2
+add-mark-after-2 c = let f = c .before .before .before .before in omega (arith, room-left (here (f .before)) (f .if1 .left))
+
+mark-after-requires : tie.Need-mark-after-requires
+mark-after-requires c κs = search needs
+
+same-length : tie.Need-same-length
+same-length c = search needs
+
+returns-2 : tie.Need-returns-2
+returns-2 c =
+    let w = c .before .before .before in
+    accepted (here (w .before .before .before)) (w .before .before .if1 .left) (w .write-table .ensures) (c .mark-after .ensures)
+
+pub append-table-spec : {M : Type 1} → statement M
+append-table-spec =
+    tie.close
+    (tie.spec
+    table-fault-requires
+    append-fault-requires
+    refuse-requires
+    returns
+    write-table-requires
+    add-mark-after
+    add-mark-after-2
+    mark-after-requires
+    same-length
+    returns-2)

@@ -1,0 +1,68 @@
+-- The checks decide, by the laws that hold for every request; without a fault the image is written and the bookmark goes on.
+use mathlib.Core.Path.{refl, sym, _∙_}
+use native.Mathlib.Omega.{arith}
+use lib.ListN.{length}
+use borrow.Author.Needs.{needs}
+use Rattle.request.specs.Requests.{Unlink}
+use Rattle.request.proofs.Orders.{unlink-order}
+use Rattle.volume.proofs.Writers.{Told, told, room-left, not-over, short, refused, accepted}
+use Rattle.volume.proofs.Bookmark.append_unlink.Statement.{statement}
+use Rattle.volume.proofs.Bookmark.append_unlink.Tie as tie
+
+name-fault-requires : tie.Need-name-fault-requires
+name-fault-requires c κs = search needs
+
+append-fault-requires : tie.Need-append-fault-requires
+append-fault-requires c κs = search needs
+
+-- what was told of this request
+here : (c : tie.After-append-fault) → let a = c .before .before .before .before .args in
+    Told (a .buf .now) (a .self) (Unlink (a .time) (a .child) (a .parent) (a .name .now)) (length (a .name .now)) (c .append-fault .result)
+here c =
+    let a = c .before .before .before .before .args in
+    told (a .buf .now) (a .self) (Unlink (a .time) (a .child) (a .parent) (a .name .now))
+    (c .before .name-fault .ensures ∙ sym (unlink-order (a .time) (a .child) (a .parent) (a .name .now))) refl (c .append-fault .ensures)
+
+refuse-requires : tie.Need-refuse-requires
+refuse-requires c κs = search needs
+
+returns : tie.Need-returns
+returns c = refused (here (c .before .before)) (c .refuse .ensures) (c .before .if1 .taken)
+
+write-unlink-requires : tie.Need-write-unlink-requires
+write-unlink-requires c κs =
+    let f = c .before in
+    let t = here (f .before) in
+    (omega (arith, room-left t (f .if1 .left)), short 65535 _ (not-over t (f .if1 .left)))
+
+add-mark-after : tie.Need-add-mark-after
+add-mark-after c = let f = c .before .before .before .before in omega (arith, room-left (here (f .before)) (f .if1 .left))
+
+add-mark-after-2 : tie.Need-add-mark-after-2
+add-mark-after-2 c = let f = c .before .before .before .before in omega (arith, room-left (here (f .before)) (f .if1 .left))
+
+mark-after-requires : tie.Need-mark-after-requires
+mark-after-requires c κs = search needs
+
+same-length : tie.Need-same-length
+same-length c = search needs
+
+returns-2 : tie.Need-returns-2
+returns-2 c =
+    let w = c .before .before .before in
+    accepted (here (w .before .before .before)) (w .before .before .if1 .left) (w .write-unlink .ensures) (c .mark-after .ensures)
+
+pub append-unlink-spec : {M : Type 1} → statement M
+append-unlink-spec =
+    tie.close
+    (tie.spec
+    name-fault-requires
+    append-fault-requires
+    refuse-requires
+    returns
+    write-unlink-requires
+    add-mark-after
+    add-mark-after-2
+    mark-after-requires
+    same-length
+    returns-2)

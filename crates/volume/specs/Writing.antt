@@ -1,0 +1,83 @@
+-- What writing a header and appending a block answer, and what the buffer then holds.
+use Prim.Native.Nat.{ℕ, _+_, _^_, _<_}
+use mathlib.Core.Bool.{Bool, not, cond, Bool·beq}
+use mathlib.Core.Option.{Option}
+use mathlib.Core.List.{List, [], _∷_, _++_}
+use lib.Dec.{ltb, eqb}
+use lib.ListN.{length}
+use Rattle.number.specs.Number.{Bytes, put}
+use Rattle.checks.specs.Checks.{Check, check, firstFault}
+use Rattle.format.specs.Headers.{Header, headerImage}
+use Rattle.block.specs.Order.{volumeLimit}
+use Rattle.request.specs.Requests.{Request, isTable, timeIn, imageIn, requestOrder}
+use Rattle.volume.specs.Heading.{hashWrong, firstMark, refusalOf}
+use Rattle.volume.specs.Reading.{mayFollow, markAfter}
+use Rattle.volume.specs.declared.Bookmark.{Bookmark}
+use Rattle.volume.specs.declared.WriteAnswer.{WriteAnswer}
+use Rattle.volume.specs.declared.WriteAnswer.the-variants.{Next, Refused}
+
+-- the checks of the place: 8 (below 80; a table is due and this is none, or this is one and none is due)
+abbrev pub placeOrder : Bookmark → (table : Bool) → List Check
+placeOrder mark table =
+    check (ltb (mark .offset) 80) 8
+    ∷ check (not (Bool·beq (mark .due) table)) 8
+    ∷ []
+
+-- the checks of time and room: 14, 1, 17
+abbrev pub roomOrder : Bookmark → (time : Option ℕ) (len room : ℕ) → List Check
+roomOrder mark time len room =
+    check (not (mayFollow (mark .last) time)) 14
+    ∷ check (ltb volumeLimit (mark .offset + len)) 1
+    ∷ check (ltb room (mark .offset + len)) 17
+    ∷ []
+
+-- the checks of an append: 8, 9, 11 (link bytes), 10, 11 (inode), 12, 13, 14, 1, 17
+abbrev pub appendOrder : (room : ℕ) → Bookmark → Request → List Check
+appendOrder room mark request =
+    placeOrder mark (isTable request)
+    ++ (requestOrder request ++ roomOrder mark (timeIn request) (length (imageIn request)) room)
+
+-- the same checks, where the request's own are known by their first fault, which is 0 if there is none
+abbrev pub askedOrder : (room : ℕ) → Bookmark → (table : Bool) (asked : ℕ) (time : Option ℕ) (len : ℕ) → List Check
+askedOrder room mark table asked time len =
+    placeOrder mark table ++ (check (not (eqb asked 0)) asked ∷ roomOrder mark time len room)
+
+unfoldable pub appendFault : (room : ℕ) → Bookmark → Request → ℕ
+appendFault room mark request = firstFault (appendOrder room mark request)
+
+-- the bookmark after the block, or the refusal
+unfoldable pub appendAnswer : (room : ℕ) → Bookmark → Request → WriteAnswer
+appendAnswer room mark request =
+    cond (eqb (appendFault room mark request) 0)
+    (Next (markAfter (mark .offset + length (imageIn request)) (mark .last) (timeIn request)))
+    (Refused (refusalOf (appendFault room mark request)))
+
+-- the buffer with the image at the bookmark's offset; as it was on refusal
+unfoldable pub appendBuffer : (buffer : List ℕ) → Bookmark → Request → List ℕ
+appendBuffer buffer mark request =
+    cond (eqb (appendFault (length buffer) mark request) 0) (put buffer (mark .offset) (imageIn request)) buffer
+
+-- the checks of writing a header: 11 (file system ID, previous hash), 6, 17
+abbrev pub writeOrder : (room : ℕ) → Header → List Check
+writeOrder room header =
+    check (not (eqb (length (header .id)) 16)) 11
+    ∷ check (not (eqb (length (header .previous)) 32)) 11
+    ∷ check (hashWrong (header .sequence) (header .previous)) 6
+    ∷ check (ltb room 80) 17
+    ∷ []
+
+unfoldable pub writeFault : (room : ℕ) → Header → ℕ
+writeFault room header = firstFault (writeOrder room header)
+
+unfoldable pub writeAnswer : (room : ℕ) → Header → WriteAnswer
+writeAnswer room header =
+    cond (eqb (writeFault room header) 0) (Next (firstMark (header .sequence))) (Refused (refusalOf (writeFault room header)))
+
+unfoldable pub writeBuffer : (buffer : List ℕ) → Header → List ℕ
+writeBuffer buffer header = cond (eqb (writeFault (length buffer) header) 0) (put buffer 0 (headerImage header)) buffer
+
+-- what holds of the arguments of the header writer, by their types
+pub record SizedHeader (header : Header) : Type 0 where
+  pub fit : header .sequence < 256 ^ 8
+  pub id-bytes : Bytes (header .id)
+  pub hash-bytes : Bytes (header .previous)
