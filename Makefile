@@ -1,5 +1,7 @@
 # `make demo` shows the library at work; `make test` proves and runs everything, and is what CI runs.
-.PHONY: demo test check fmt
+SHELL := /bin/bash
+.SHELLFLAGS := -euo pipefail -c
+.PHONY: demo test calls rust-tests bench check fmt
 
 SAMPLES := crates/samples/data
 
@@ -11,16 +13,30 @@ demo:
 	@echo
 	@echo "A volume with one damaged byte, listed:"
 	@./target/bin/hdrfs_list < $(SAMPLES)/wrong_block_sum.vol
-	@echo
-	@echo "Vectors from outside, and what the check answers for each sample volume:"
-	@cd $(SAMPLES) && xargs ../../../target/bin/samples < ../args
 
+# The proofs come first; their last line, 'N passed, 0 failed', is printed again at the end, and only if all tests passed.
 test:
-	rt ci
+	@log=$$(mktemp); trap 'rm -f "$$log"' EXIT; \
+	rt ci 2>&1 | tee "$$log"; \
+	$(MAKE) --no-print-directory calls rust-tests; \
+	tail -n 1 "$$log"
 
-# The quick form of `make test`: only what changed since the last time is proved again.
+# The exported calls, made from C through include/hdrfs.h and compared with what they must answer.
+calls:
+	rt staticlib exchange
+	gcc -std=c11 -Wall -Wextra -Werror -Iinclude tests/c/calls.c target/staticlib/libexchange.a -o target/calls
+	./target/calls | diff tests/c/calls.expected -
+
+rust-tests:
+	cd rust && cargo test --release --offline --workspace
+
+bench:
+	cd rust && cargo run --release --offline --package bench
+
+# The quick form of the proofs: only what changed since the last time is proved again.
 check:
 	rt check
 
 fmt:
 	rt fmt
+	cd rust && cargo fmt

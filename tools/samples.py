@@ -1,5 +1,5 @@
 #!/usr/bin/env python3
-"""Makes the sample volumes of crates/samples/data and what the program `samples` must print of them.
+"""Makes the sample volumes that the sample programs read, and what the programs must print of them.
 
 The answers come from the small reader below, which is written from the rules alone and shares nothing with the library.
 Run it from the top of the repository after a change to the list of samples; the files it writes are kept in the repository.
@@ -446,20 +446,30 @@ def written_rows():
     yield from listed(EIGHT)
 
 
-def main():
-    root = pathlib.Path("crates/samples")
-    folder = root / "data"
+CRATES = pathlib.Path("crates")
+VOLUMES = dict(SAMPLES)
+
+
+def keep(crate, names, lines):
+    """The volumes that a program reads, and what it must print."""
+    folder = CRATES / crate / "data"
     folder.mkdir(exist_ok=True)
     for old in folder.glob("*.vol"):
         old.unlink()
-    for name, volume in SAMPLES:
-        (folder / f"{name}.vol").write_bytes(volume)
-    (root / "args").write_text("".join(f"{name}.vol\n" for name, _ in SAMPLES))
-    # the lines before those of the lookups are kept: vectors from outside, and the listing
-    lines = (root / "stdout").read_text().splitlines()
-    first = next(i for i, line in enumerate(lines) if ".vol: " in line or line.startswith("inode at "))
-    rows = [f"{name}.vol: {check(volume)}" for name, volume in SAMPLES]
-    (root / "stdout").write_text("\n".join(lines[:first] + list(lookup_rows()) + list(written_rows()) + rows) + "\n")
+    for name in names:
+        (folder / f"{name}.vol").write_bytes(VOLUMES[name])
+    (CRATES / crate / "stdout").write_text("\n".join(lines) + "\n")
 
 
-main()
+def main():
+    # the lines before those of the volumes are kept: vectors from outside, and the listing
+    lines = (CRATES / "samples/stdout").read_text().splitlines()
+    first = next(i for i, line in enumerate(lines) if ".vol: " in line)
+    keep("samples", VOLUMES, lines[:first] + [f"{name}.vol: {check(volume)}" for name, volume in SAMPLES])
+    (CRATES / "samples/args").write_text("".join(f"{name}.vol\n" for name in VOLUMES))
+    keep("lookup_samples", ["gauge", "later", "v", "wrong_magic"], lookup_rows())
+    keep("writing_samples", ["all_kinds"], written_rows())
+
+
+if __name__ == "__main__":
+    main()

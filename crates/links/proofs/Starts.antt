@@ -42,15 +42,12 @@ module _ (links : List ℕ) where
   length-in-rest at = rw (take-all (length links - at) (drop at links) (simp length-drop (omega arith)), drop-drop)
 
   -- a link that begins where the bytes end, or before, and is longer than what is left ends past them
-  module _ (i at len : ℕ) (s : at ≡ min (linkStart links i) (length links)) (l : len ≡ 18 + nameLengthAt links at) where
-    pub start-past : length links - at < len → length links < linkStart links (i + 1)
-    start-past h =
-        cases (length links) (linkStart links i)
-        (λ past. omega (arith, start-rises i (i + 1) (omega arith)))
-        (λ within. let e : at ≡ linkStart links i = omega arith in omega (arith, start-next i at len e l))
-
-    pub start-here : len ≤ length links - at → at ≡ linkStart links i
-    start-here h = omega arith
+  pub start-past : (i at len : ℕ) → at ≡ min (linkStart links i) (length links) → len ≡ 18 + nameLengthAt links at
+      → length links - at < len → length links < linkStart links (i + 1)
+  start-past i at len s l h =
+      cases (length links) (linkStart links i)
+      (λ past. omega (arith, start-rises i (i + 1) (omega arith)))
+      (λ within. let e : at ≡ linkStart links i = omega arith in omega (arith, start-next i at len e l))
 
   -- where the last of the links ends within the bytes, each does
   pub link-within : (i count at : ℕ) → i < count → linkStart links count ≤ length links → at ≡ linkStart links i

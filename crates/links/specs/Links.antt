@@ -54,9 +54,10 @@ abbrev pub foundAt : (links : List ℕ) (at : ℕ) → Link
 foundAt links at =
     record { child = numberAt links at 8; parent = parentAt links at; name = at + 18; len = nameLengthAt links at }
 
--- the link with the given number, where it is one of `count` links and ends within the bytes
+-- the link that begins at a place, where it ends within the bytes
+unfoldable pub linkFrom : (links : List ℕ) (at : ℕ) → LinkAnswer
+linkFrom links at = cond (leb (at + (18 + nameLengthAt links at)) (length links)) (Found (foundAt links at)) Missing
+
+-- the link with the given number, where it is one of `count` links
 unfoldable pub linkAnswer : (links : List ℕ) (count index : ℕ) → LinkAnswer
-linkAnswer links count index =
-    cond (ltb index count && leb (linkStart links (suc index)) (length links))
-    (Found (foundAt links (linkStart links index)))
-    Missing
+linkAnswer links count index = cond (ltb index count) (linkFrom links (linkStart links index)) Missing

@@ -1,8 +1,8 @@
 -- No lookup is refused with 18: an extent whose blocks have size 0 has no raw bytes (S×C is 0), so L is 0 and it keeps
 -- nothing, whatever its other fields say. The check stands in the table, and is never at fault. Assumes nothing.
 use Prim.Native.Nat.{ℕ}
-use mathlib.Core.Path.{_≡_, refl, sym, ap, _∙_}
-use mathlib.Core.Bool.{Bool, true, false, cond, _&&_, _||_, false≢true}
+use mathlib.Core.Path.{_≡_, sym, ap, _∙_}
+use mathlib.Core.Bool.{Bool, true, false, cond, _||_, and-eq-true-iff, false≢true}
 use mathlib.Core.Logic.{⊎-elim}
 use mathlib.Core.Option.{Option, none, some}
 use mathlib.Mathlib.Data.Bool.Basic.{dichotomy}
@@ -10,7 +10,7 @@ use mathlib.Core.List.{List, [], _∷_}
 use native.Mathlib.Nat.{zero-mul}
 use native.Mathlib.Omega.{arith}
 use lib.Dec.{ltb, eqb}
-use borrow.Author.Tests.{le-ltb, eqb-true, eq-eqb}
+use borrow.Author.Tests.{ltb-true, eqb-true, eq-eqb}
 use Rattle.checks.specs.Checks.{Check, check, firstFault}
 use Rattle.checks.proofs.Scan.{any-nowhere}
 use Rattle.format.specs.declared.Extent.{Extent}
@@ -30,16 +30,13 @@ pub never-stray : (e : Extent) → isStray e ≡ false
 unfolding isStray
 never-stray e =
     ⊎-elim
-    (λ q. rw q (neither (ltb 0 (keptLength e))))
+    (λ q. q)
     (λ q.
-    let z : e .size ≡ 0 = eqb-true (e .size) 0 q in
+    let a = and-eq-true-iff (ltb 0 (keptLength e)) _ .0 q in
+    let z : e .size ≡ 0 = eqb-true (e .size) 0 (a .1) in
     let n : keptLength e ≡ 0 = rw (z, zero-mul) (omega arith) in
-    rw (le-ltb 0 (keptLength e) (omega arith)))
-    (dichotomy (eqb (e .size) 0))
-  where
-    neither : (t : Bool) → (t && false) ≡ false
-    neither true = refl
-    neither false = refl
+    absurd (omega (arith, ltb-true 0 (keptLength e) (a .0))))
+    (dichotomy (isStray e))
 
 pub none-stray : (list : List ℕ) → someStray list ≡ false
 unfolding someStray

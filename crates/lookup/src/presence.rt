@@ -43,10 +43,10 @@ fn is_stray(e: Extent) -> bool
     requires { ⌜ isSound e ≡ true ⌝ }
     ensures { λ r. ⌜ r ≡ isStray e ⌝ }
 {
-    if kept_len(e) == 0 {
+    if e.size != 0 {
         return false;
     }
-    e.size == 0
+    0 < kept_len(e)
 }
 
 // Whether what some extent of the list names is absent.

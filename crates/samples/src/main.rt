@@ -1,12 +1,8 @@
 // Runs vectors from outside against the library and prints what it answers; the file stdout has what it must print.
-mod files;
 mod listings;
-mod lookups;
-mod printing;
 mod sums;
 mod texts;
 mod volumes;
-mod writing;
 
 fn main() {
     sums::all();
@@ -16,7 +12,5 @@ fn main() {
     texts::surrogates_and_above();
     texts::cut_and_stray();
     listings::too_long();
-    lookups::all();
-    writing::all();
     volumes::all();
 }

@@ -1,28 +1,22 @@
 // Volumes from the folder data, one for each argument: what the check of the whole volume answers.
-use crate::files::load;
-use crate::printing::print_number;
-use crate::printing::print_word;
+use printing::load;
+use printing::print_pair;
+use printing::print_word;
 use volume::Accepted;
 use volume::Rejected;
 use volume::Verdict;
 
 fn print_accepted(v: Accepted) {
-    print_word(b": accepted, volume ");
-    print_number(v.sequence);
-    print_word(b", ");
-    print_number(v.blocks);
-    print_word(b" blocks, end ");
-    print_number(v.end.offset as u64);
+    print_pair(b": accepted, volume ", v.sequence);
+    print_pair(b", ", v.blocks);
+    print_pair(b" blocks, end ", v.end.offset as u64);
     print_word(b"\n");
 }
 
 fn print_refused(v: Rejected) {
-    print_word(b": refused ");
-    print_number(v.refusal.number);
-    print_word(b" at ");
-    print_number(v.offset as u64);
-    print_word(b" after ");
-    print_number(v.blocks);
+    print_pair(b": refused ", v.refusal.number);
+    print_pair(b" at ", v.offset as u64);
+    print_pair(b" after ", v.blocks);
     print_word(b" blocks\n");
 }
 

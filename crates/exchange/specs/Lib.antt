@@ -1,0 +1,6 @@
+pub mod Marks
+pub mod Checking
+pub mod Blocks
+pub mod Walking
+pub mod Places
+pub mod Sources

@@ -1,0 +1,94 @@
+// The calls for programs in other languages, as include/hdrfs.h declares them: numbers and byte slices in, numbers out.
+//
+// Each turns the answer of a public call of `volume`, `links` or `lookup` into numbers, by a definition in specs/. The
+// structs below have the fields of those in the header file, in its order. `checking` has the check of a whole volume,
+// `walking` the header, the blocks and the links one by one, `places` positions and runs, `sources` the fetching of bytes.
+mod blocks;
+pub mod checking;
+mod marks;
+pub mod places;
+pub mod sources;
+pub mod walking;
+
+// What the check of a whole volume answers: hdrfs_checked.
+#[repr(C)]
+pub struct CheckNumbers {
+    pub refusal: u64,
+    pub sequence: u64,
+    pub blocks: u64,
+    pub offset: u64,
+    pub timed: u64,
+    pub time: u64,
+}
+
+// What reading a header answers: hdrfs_heading.
+#[repr(C)]
+pub struct HeadingNumbers {
+    pub refusal: u64,
+    pub sequence: u64,
+    pub next: u64,
+    pub due: u64,
+}
+
+// What reading a block answers: hdrfs_block.
+#[repr(C)]
+pub struct BlockNumbers {
+    pub refusal: u64,
+    pub end: u64,
+    pub id: u64,
+    pub next: u64,
+    pub due: u64,
+    pub timed: u64,
+    pub last: u64,
+    pub time: u64,
+    pub inode: u64,
+    pub child: u64,
+    pub parent: u64,
+    pub mode: u64,
+    pub uid: u64,
+    pub gid: u64,
+    pub atime: u64,
+    pub mtime: u64,
+    pub ctime: u64,
+    pub btime: u64,
+    pub size: u64,
+    pub count: u64,
+    pub part: u64,
+    pub partlen: u64,
+    pub second: u64,
+    pub secondlen: u64,
+}
+
+// What reading a link of a table answers: hdrfs_link_entry.
+#[repr(C)]
+pub struct LinkNumbers {
+    pub missing: u64,
+    pub child: u64,
+    pub parent: u64,
+    pub name: u64,
+    pub namelen: u64,
+    pub next: u64,
+}
+
+// What looking up a position answers: hdrfs_place.
+#[repr(C)]
+pub struct PlaceNumbers {
+    pub refusal: u64,
+    pub kind: u64,
+    pub volume: u64,
+    pub offset: u64,
+}
+
+// What a range query answers beside the runs: hdrfs_run_count.
+#[repr(C)]
+pub struct RunCountNumbers {
+    pub refusal: u64,
+    pub count: u64,
+}
+
+// Which of two volumes has the bytes: hdrfs_source.
+#[repr(C)]
+pub struct SourceNumbers {
+    pub refusal: u64,
+    pub which: u64,
+}

@@ -1,0 +1,91 @@
+// Walking a volume: the header, the blocks by bookmark, and the links of a table, as numbers.
+use crate::BlockNumbers;
+use crate::HeadingNumbers;
+use crate::LinkNumbers;
+use crate::blocks::block_numbers;
+use crate::blocks::no_block;
+use crate::marks::bookmark_of;
+use crate::marks::flag_number;
+use links::LinkAnswer;
+use links::link_from;
+use volume::HeaderAnswer;
+use volume::ReadAnswer;
+use volume::heading::read_header;
+ghost use mathlib.Core.Path.{_≡_};
+ghost use Rattle.links.specs.Links.{linkFrom};
+ghost use Rattle.volume.specs.Heading.{headerAnswer};
+ghost use Rattle.volume.specs.Reading.{readAnswer};
+ghost use Rattle.exchange.specs.Marks.{bookmarkOf};
+ghost use Rattle.exchange.specs.Walking.{headingNumbers, blockNumbers, linkNumbers};
+
+// The header, and the bookmark after it, which has no last time.
+#[no_mangle]
+pub extern "C" fn hdrfs_header(volume: &[u8]) -> HeadingNumbers
+    ensures { λ r. ⌜ r ≡ headingNumbers (headerAnswer (now (volume .entry))) ⌝ }
+{
+    match read_header(volume) {
+        HeaderAnswer::Accepted(header) => {
+            let next = header.next;
+            HeadingNumbers {
+                refusal: 0,
+                sequence: header.sequence,
+                next: next.offset as u64,
+                due: flag_number(next.due),
+            }
+        }
+        HeaderAnswer::Refused(refusal) => HeadingNumbers {
+            refusal: refusal.number,
+            sequence: 0,
+            next: 0,
+            due: 0,
+        },
+    }
+}
+
+// The block at the bookmark that the four numbers give.
+#[no_mangle]
+pub extern "C" fn hdrfs_read(
+    volume: &[u8],
+    offset: u64,
+    due: u64,
+    timed: u64,
+    time: u64,
+) -> BlockNumbers
+    ensures { λ r. ⌜ r ≡ blockNumbers (readAnswer (now (volume .entry)) (bookmarkOf offset due timed time)) ⌝ }
+{
+    let mark = bookmark_of(offset, due, timed, time);
+    match mark.read(volume) {
+        ReadAnswer::Found(found) => {
+            let block = found.block;
+            let next = found.next;
+            block_numbers(block, next)
+        }
+        ReadAnswer::End => no_block(0, 1),
+        ReadAnswer::Refused(refusal) => no_block(refusal.number, 0),
+    }
+}
+
+// The link that begins `at` bytes into the links of a table.
+#[no_mangle]
+pub extern "C" fn hdrfs_link(links: &[u8], at: u64) -> LinkNumbers
+    ensures { λ r. ⌜ r ≡ linkNumbers (linkFrom (now (links .entry)) at) ⌝ }
+{
+    match link_from(links, at as usize) {
+        LinkAnswer::Found(link) => LinkNumbers {
+            missing: 0,
+            child: link.child,
+            parent: link.parent,
+            name: link.name as u64,
+            namelen: link.len as u64,
+            next: (link.name + link.len) as u64,
+        },
+        LinkAnswer::Missing => LinkNumbers {
+            missing: 1,
+            child: 0,
+            parent: 0,
+            name: 0,
+            namelen: 0,
+            next: 0,
+        },
+    }
+}

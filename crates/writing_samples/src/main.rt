@@ -1,0 +1,314 @@
+// A volume with a block of every kind, written afresh into a buffer that it fills, with refused calls among the accepted
+// ones. The bytes are then compared with those of all_kinds.vol, which was made from the layouts by other means, and listed.
+use libc::STDOUT_FILENO;
+use printing::load;
+use printing::print_pair;
+use printing::print_word;
+use volume::Bookmark;
+use volume::LastTime;
+use volume::WriteAnswer;
+
+const REGULAR: u16 = 33188;
+
+const SYMBOLIC_LINK: u16 = 41471;
+
+const FOLDER: u16 = 16877;
+
+// Prints the answer of a call, and gives the bookmark for the next one: after a refusal, the same again.
+fn onward(call: &[u8], mark: Bookmark, answer: WriteAnswer) -> Bookmark {
+    print_word(b"write ");
+    print_word(call);
+    match answer {
+        WriteAnswer::Next(next) => {
+            print_pair(b": next ", next.offset as u64);
+            print_word(b"\n");
+            next
+        }
+        WriteAnswer::Refused(refusal) => {
+            print_pair(b": refused ", refusal.number);
+            print_word(b"\n");
+            mark
+        }
+    }
+}
+
+// A bookmark for calls that need none.
+fn nowhere() -> Bookmark {
+    Bookmark {
+        offset: 0,
+        due: false,
+        last: LastTime::Never,
+    }
+}
+
+// Headers that are refused: an ID and a hash of other lengths, a hash in volume 0, no room.
+fn no_headers(buf: &mut [u8; 659]) {
+    let id = b"\0\x01\x02\x03\x04\x05\x06\x07\x08\x09\x0A\x0B\x0C\x0D\x0E\x0F";
+    let a = volume::heading::write_header(buf, &[0u8; 15], 1, &[9u8; 32]);
+    onward(b"header, ID of 15 bytes", nowhere(), a);
+    let b = volume::heading::write_header(buf, id, 1, &[9u8; 33]);
+    onward(b"header, hash of 33 bytes", nowhere(), b);
+    let c = volume::heading::write_header(buf, id, 0, &[9u8; 32]);
+    onward(b"header of volume 0 with a hash", nowhere(), c);
+}
+
+fn no_room() {
+    let mut little = [0u8; 79];
+    let a = volume::heading::write_header(&mut little, &[0u8; 16], 1, &[9u8; 32]);
+    onward(b"header in 79 bytes", nowhere(), a);
+}
+
+fn start(buf: &mut [u8; 659]) -> Bookmark {
+    let id = b"\0\x01\x02\x03\x04\x05\x06\x07\x08\x09\x0A\x0B\x0C\x0D\x0E\x0F";
+    let a = volume::heading::write_header(buf, id, 1, &[9u8; 32]);
+    onward(b"header", nowhere(), a)
+}
+
+// The table: what is refused where it is due, and then the table itself.
+fn table(buf: &mut [u8; 659], first: Bookmark) -> Bookmark {
+    let links =
+        b"\x08\0\0\0\0\0\0\0\x01\0\0\0\0\0\0\0\x05\0gauge\x09\0\0\0\0\0\0\0\x01\0\0\0\0\0\0\0\x03\0log";
+    let twice =
+        b"\x08\0\0\0\0\0\0\0\x01\0\0\0\0\0\0\0\x01\0a\x09\0\0\0\0\0\0\0\x01\0\0\0\0\0\0\0\x01\0a";
+    let stray = b"\x08\0\0\0\0\0\0\0\x01\0\0\0\0\0\0\0\x01\0\xFF";
+    let mut mark = first;
+    mark = onward(
+        b"data where a table is due",
+        mark,
+        mark.append_data(buf, 1, b"1,5"),
+    );
+    mark = onward(
+        b"table of 4,097 links",
+        mark,
+        mark.append_table(buf, 4097, links),
+    );
+    mark = onward(
+        b"table with one link more",
+        mark,
+        mark.append_table(buf, 1, links),
+    );
+    mark = onward(
+        b"table with one link less",
+        mark,
+        mark.append_table(buf, 3, links),
+    );
+    mark = onward(
+        b"table, name not text",
+        mark,
+        mark.append_table(buf, 1, stray),
+    );
+    mark = onward(b"table, link twice", mark, mark.append_table(buf, 2, twice));
+    mark = onward(b"table", mark, mark.append_table(buf, 2, links));
+    onward(b"second table", mark, mark.append_table(buf, 2, links))
+}
+
+// An inode with the number, owners and times of the sample.
+fn inode(
+    mark: Bookmark,
+    buf: &mut [u8; 659],
+    time: u64,
+    mode: u16,
+    size: u64,
+    rest: &[u8],
+) -> WriteAnswer {
+    mark.append_inode(buf, 7, time, mode, 1, 2, 3, 4, 5, 6, size, rest)
+}
+
+// Regular files that are refused: too many bytes, bytes that are no extents, and ranges that overlap.
+fn no_files(buf: &mut [u8; 659], first: Bookmark) -> Bookmark {
+    let overlapping =
+        b"\0\0\0\0\0\0\0\0a\0\0\0\0\0\0\0\x03\0\0\0\0\0\0\0C\x01\0\0\0\0\0\0\0\0\0\0\0\0\0\0\0\0\0\0\0\0\0\0\0\0\0\0\0\0\0\0\0\0\0\0\0\0\0\0\0a\0\0\0\0\0\0\0\x03\0\0\0\0\0\0\0R\x03\0\0\0\0\0\0\0\x01\0\0\0\0\0\0\0\x01\0\0\0\0\0\0\0\x02\0\0\0\0\0\0\0";
+    let mut mark = first;
+    mark = onward(
+        b"inode of 1,025 extents",
+        mark,
+        inode(mark, buf, 1, REGULAR, 14, &[0u8; 58425]),
+    );
+    mark = onward(
+        b"inode, 56 bytes",
+        mark,
+        inode(mark, buf, 1, REGULAR, 14, &[0u8; 56]),
+    );
+    mark = onward(
+        b"inode, multiplicity 0",
+        mark,
+        inode(mark, buf, 1, REGULAR, 14, &[0u8; 57]),
+    );
+    onward(
+        b"inode, ranges overlap",
+        mark,
+        inode(mark, buf, 1, REGULAR, 14, overlapping),
+    )
+}
+
+// Volume, start, block size, multiplicity, count, pre, post and logical start: (0, 97, 3, 67, 1, 0, 0, 0) and
+// (0, 97, 3, 82, 3, 1, 1, 4).
+fn file(buf: &mut [u8; 659], mark: Bookmark) -> Bookmark {
+    let list =
+        b"\0\0\0\0\0\0\0\0a\0\0\0\0\0\0\0\x03\0\0\0\0\0\0\0C\x01\0\0\0\0\0\0\0\0\0\0\0\0\0\0\0\0\0\0\0\0\0\0\0\0\0\0\0\0\0\0\0\0\0\0\0\0\0\0\0a\0\0\0\0\0\0\0\x03\0\0\0\0\0\0\0R\x03\0\0\0\0\0\0\0\x01\0\0\0\0\0\0\0\x01\0\0\0\0\0\0\0\x04\0\0\0\0\0\0\0";
+    onward(b"inode", mark, inode(mark, buf, 1, REGULAR, 14, list))
+}
+
+fn symbolic_links(buf: &mut [u8; 659], first: Bookmark) -> Bookmark {
+    let mut mark = first;
+    mark = onward(
+        b"target not text",
+        mark,
+        inode(mark, buf, 2, SYMBOLIC_LINK, 71, b"\x80"),
+    );
+    mark = onward(
+        b"target of another size",
+        mark,
+        inode(mark, buf, 2, SYMBOLIC_LINK, 76, b"gauge"),
+    );
+    onward(
+        b"symbolic link",
+        mark,
+        inode(mark, buf, 2, SYMBOLIC_LINK, 75, b"gauge"),
+    )
+}
+
+fn folders(buf: &mut [u8; 659], first: Bookmark) -> Bookmark {
+    let mut mark = first;
+    mark = onward(
+        b"folder with a byte",
+        mark,
+        inode(mark, buf, 3, FOLDER, 70, b"x"),
+    );
+    mark = onward(
+        b"folder at an earlier time",
+        mark,
+        inode(mark, buf, 1, FOLDER, 70, b""),
+    );
+    mark = onward(
+        b"folder at the same time",
+        mark,
+        inode(mark, buf, 2, FOLDER, 70, b""),
+    );
+    onward(b"folder", mark, inode(mark, buf, 3, FOLDER, 70, b""))
+}
+
+fn names(buf: &mut [u8; 659], first: Bookmark) -> Bookmark {
+    let mut mark = first;
+    mark = onward(
+        b"link, name of 65,536 bytes",
+        mark,
+        mark.append_link(buf, 4, 8, 1, &[0u8; 65536]),
+    );
+    mark = onward(b"link", mark, mark.append_link(buf, 4, 8, 1, b"gauge"));
+    mark = onward(
+        b"unlink, name not text",
+        mark,
+        mark.append_unlink(buf, 5, 8, 1, b"\xC3"),
+    );
+    mark = onward(b"unlink", mark, mark.append_unlink(buf, 5, 8, 1, b"log"));
+    mark = onward(
+        b"xattr, name of 256 bytes",
+        mark,
+        mark.append_xattr(buf, 6, 7, &[0u8; 256], b"m\xFF"),
+    );
+    mark = onward(
+        b"xattr",
+        mark,
+        mark.append_xattr(buf, 6, 7, b"unit", b"m\xFF"),
+    );
+    onward(
+        b"removed xattr",
+        mark,
+        mark.append_removed_xattr(buf, 7, 7, b"unit"),
+    )
+}
+
+// Data and a rename, and after them the buffer is full.
+fn last_blocks(buf: &mut [u8; 659], first: Bookmark) -> Bookmark {
+    let mut mark = first;
+    mark = onward(b"data", mark, mark.append_data(buf, 8, b"1,5"));
+    mark = onward(
+        b"rename, new path not text",
+        mark,
+        mark.append_rename(buf, 9, b"gauge", b"p\xE9gel"),
+    );
+    mark = onward(
+        b"rename",
+        mark,
+        mark.append_rename(buf, 9, b"gauge", b"p\xC3\xA9gel"),
+    );
+    onward(b"data without room", mark, mark.append_data(buf, 10, b""))
+}
+
+// Bookmarks that no call hands out.
+fn made_up(buf: &mut [u8; 659], offset: usize, last: LastTime, call: &[u8], time: u64) {
+    let mark = Bookmark {
+        offset,
+        due: false,
+        last,
+    };
+    onward(call, mark, mark.append_data(buf, time, b"1,5"));
+}
+
+fn table_not_due(buf: &mut [u8; 659]) {
+    let mark = Bookmark {
+        offset: 16777196,
+        due: false,
+        last: LastTime::Never,
+    };
+    onward(
+        b"table where none is due",
+        mark,
+        mark.append_table(buf, 0, b""),
+    );
+}
+
+fn bookmarks(buf: &mut [u8; 659]) {
+    let latest = 18446744073709551615;
+    made_up(buf, 79, LastTime::Never, b"data at 79", 1);
+    table_not_due(buf);
+    made_up(
+        buf,
+        16777196,
+        LastTime::At(latest),
+        b"data after the last time of all",
+        latest,
+    );
+    made_up(
+        buf,
+        18446744073709551615,
+        LastTime::Never,
+        b"data past the limit",
+        1,
+    );
+}
+
+// Whether the volume that was written is the one made by other means.
+fn compare(written: &[u8; 659]) {
+    let mut made = [0u8; 1024];
+    let n = load(b"all_kinds.vol", &mut made);
+    if number::same_bytes(written, &made[..n]) {
+        print_word(b"written: the bytes of all_kinds.vol\n");
+        return;
+    }
+    print_word(b"written: other bytes than all_kinds.vol\n");
+}
+
+fn list(written: &[u8; 659]) {
+    let mut text = [0u8; 125];
+    listing::list(written, &mut text);
+    io::write_all(STDOUT_FILENO, &text);
+}
+
+fn main() {
+    let mut buf = [0u8; 659];
+    no_headers(&mut buf);
+    no_room();
+    let mut mark = start(&mut buf);
+    mark = table(&mut buf, mark);
+    mark = no_files(&mut buf, mark);
+    mark = file(&mut buf, mark);
+    mark = symbolic_links(&mut buf, mark);
+    mark = folders(&mut buf, mark);
+    mark = names(&mut buf, mark);
+    last_blocks(&mut buf, mark);
+    bookmarks(&mut buf);
+    compare(&buf);
+    list(&buf);
+}

@@ -1,0 +1,148 @@
+/* Calls of the proved HDRFS library for programs in C, Rust and other languages.
+ *
+ * A slice is a pointer and a length; the pointer may be null where the length is 0. Every call takes any bytes and any
+ * numbers, ends, and writes nothing but the list lent to hdrfs_runs. A refusal number of 0 means that nothing is refused;
+ * docs/REFUSALS.md says what the others mean. Beside a refusal every other value is 0, except the offset and the number of
+ * blocks that the check of a whole volume hands out.
+ *
+ * `lengths` has the lengths of the volumes, 8 bytes for each, lowest byte first; entry i is that of sequence number i.
+ */
+#ifndef HDRFS_H
+#define HDRFS_H
+
+#include <stddef.h>
+#include <stdint.h>
+
+#ifdef __cplusplus
+extern "C" {
+#endif
+
+/* What stands at a position of a file, and the kinds of runs. */
+enum { HDRFS_HOLE = 0, HDRFS_STORED = 1, HDRFS_PAST_END = 2 };
+
+/* ---- The check of a whole volume. */
+
+typedef struct {
+    uint64_t refusal;  /* 0: accepted */
+    uint64_t sequence; /* the sequence number */
+    uint64_t blocks;   /* blocks after the header that were accepted, the link table included */
+    uint64_t offset;   /* where the volume ends, or where the header or block at fault begins */
+    uint64_t timed;    /* 1: the end bookmark has a last time, and `time` is it */
+    uint64_t time;
+} hdrfs_checked;
+
+/* All of it in one pass. */
+hdrfs_checked hdrfs_check(const uint8_t *volume, size_t volume_len);
+
+/* The same, one number a call. */
+uint64_t hdrfs_check_refusal(const uint8_t *volume, size_t volume_len);
+uint64_t hdrfs_check_sequence(const uint8_t *volume, size_t volume_len);
+uint64_t hdrfs_check_blocks(const uint8_t *volume, size_t volume_len);
+uint64_t hdrfs_check_offset(const uint8_t *volume, size_t volume_len);
+uint64_t hdrfs_check_timed(const uint8_t *volume, size_t volume_len);
+uint64_t hdrfs_check_time(const uint8_t *volume, size_t volume_len);
+
+/* ---- Where a position of a file is stored. `offset` is that of an inode block in `volume`. */
+
+typedef struct {
+    uint64_t refusal;
+    uint64_t kind;   /* HDRFS_HOLE, HDRFS_STORED or HDRFS_PAST_END */
+    uint64_t volume; /* the sequence number of the volume that has the byte */
+    uint64_t offset; /* where the byte stands in that volume */
+} hdrfs_place;
+
+hdrfs_place hdrfs_lookup(const uint8_t *volume, size_t volume_len, uint64_t offset,
+                         const uint8_t *lengths, size_t lengths_len, uint64_t position);
+
+uint64_t hdrfs_lookup_refusal(const uint8_t *volume, size_t volume_len, uint64_t offset,
+                              const uint8_t *lengths, size_t lengths_len, uint64_t position);
+uint64_t hdrfs_lookup_kind(const uint8_t *volume, size_t volume_len, uint64_t offset,
+                           const uint8_t *lengths, size_t lengths_len, uint64_t position);
+uint64_t hdrfs_lookup_volume(const uint8_t *volume, size_t volume_len, uint64_t offset,
+                             const uint8_t *lengths, size_t lengths_len, uint64_t position);
+uint64_t hdrfs_lookup_offset(const uint8_t *volume, size_t volume_len, uint64_t offset,
+                             const uint8_t *lengths, size_t lengths_len, uint64_t position);
+
+/* ---- The runs of the positions `from` to below `to`: five numbers each in `out`, namely logical start, length, kind,
+ * volume and offset. `out_len` counts numbers, not bytes. Numbers past the runs keep their values. */
+
+typedef struct {
+    uint64_t refusal; /* 17: `out` has room for fewer runs than there are */
+    uint64_t count;   /* how many runs there are */
+} hdrfs_run_count;
+
+hdrfs_run_count hdrfs_runs(const uint8_t *volume, size_t volume_len, uint64_t offset,
+                           const uint8_t *lengths, size_t lengths_len, uint64_t from, uint64_t to,
+                           uint64_t *out, size_t out_len);
+
+/* ---- Walking a volume: the header, and then block by block, each time with the bookmark last handed out. */
+
+typedef struct {
+    uint64_t refusal;
+    uint64_t sequence;
+    uint64_t next; /* the bookmark after the header: its offset, and 1 where a link table is due there */
+    uint64_t due;
+} hdrfs_heading;
+
+hdrfs_heading hdrfs_header(const uint8_t *volume, size_t volume_len);
+
+/* One block. What a kind of block does not have is 0. */
+typedef struct {
+    uint64_t refusal;
+    uint64_t end;   /* 1: the bookmark stands at the end of the volume, and there is no block */
+    uint64_t id;    /* 1 inode, 2 link, 3 unlink, 4 xattr, 5 removed xattr, 6 data, 7 rename, 8 link table */
+    uint64_t next;  /* the bookmark after the block: its offset, whether a table is due, its last time if `timed` is 1 */
+    uint64_t due;
+    uint64_t timed;
+    uint64_t last;
+    uint64_t time;   /* the block's time; a link table has none */
+    uint64_t inode;  /* inode, xattr, removed xattr */
+    uint64_t child;  /* link, unlink */
+    uint64_t parent; /* link, unlink */
+    uint64_t mode;   /* inode, and so on down to size */
+    uint64_t uid;
+    uint64_t gid;
+    uint64_t atime;
+    uint64_t mtime;
+    uint64_t ctime;
+    uint64_t btime;
+    uint64_t size;
+    uint64_t count;      /* link table: how many links it has */
+    uint64_t part;       /* where the first variable part begins in the volume: target or extents, name, payload, old path, links */
+    uint64_t part_len;
+    uint64_t second;     /* xattr: the value; rename: the new path */
+    uint64_t second_len;
+} hdrfs_block;
+
+/* The block at a bookmark: `due` is 0 where no link table is due; `timed` is 0 where there is no last time. */
+hdrfs_block hdrfs_read(const uint8_t *volume, size_t volume_len, uint64_t offset, uint64_t due, uint64_t timed, uint64_t time);
+
+/* ---- The links of a table, one after the other: the link that begins `at` bytes into the links, which are the table's
+ * first variable part. Begin at 0 and go on at `next`, `count` times. */
+
+typedef struct {
+    uint64_t missing; /* 1: no whole link begins there */
+    uint64_t child;
+    uint64_t parent;
+    uint64_t name; /* where the name begins, counted from the beginning of the links */
+    uint64_t name_len;
+    uint64_t next;
+} hdrfs_link_entry;
+
+hdrfs_link_entry hdrfs_link(const uint8_t *links, size_t links_len, uint64_t at);
+
+/* ---- Which part of which of two volumes holds `len` bytes at `offset` of the volume with this sequence number. */
+
+typedef struct {
+    uint64_t refusal;
+    uint64_t which; /* 0: the first volume has them, 1: the second */
+} hdrfs_source;
+
+hdrfs_source hdrfs_fetch(const uint8_t *first, size_t first_len, const uint8_t *second, size_t second_len,
+                         uint64_t number, uint64_t offset, uint64_t len);
+
+#ifdef __cplusplus
+}
+#endif
+
+#endif

@@ -1,0 +1,31 @@
+//! Standard output. Every failure to write there is passed on, so that a full disk does not look
+//! like an answer.
+
+use std::io::{self, BufWriter, StdoutLock, Write};
+
+use crate::failure::{Failure, Status};
+
+/// Standard output for many lines.
+pub struct Lines(BufWriter<StdoutLock<'static>>);
+
+impl Lines {
+    pub fn new() -> Lines {
+        Lines(BufWriter::new(io::stdout().lock()))
+    }
+
+    pub fn put(&mut self, text: &str) -> Result<(), Failure> {
+        self.0.write_all(text.as_bytes()).map_err(Failure::Output)
+    }
+
+    pub fn flush(&mut self) -> Result<(), Failure> {
+        self.0.flush().map_err(Failure::Output)
+    }
+}
+
+/// Prints a text at once.
+pub fn print(text: &str) -> Result<Status, Failure> {
+    let mut lines = Lines::new();
+    lines.put(text)?;
+    lines.flush()?;
+    Ok(Status::Accepted)
+}

@@ -1,0 +1,156 @@
+//! `hdrfs runs`, and what becomes of output that nobody takes.
+
+mod support;
+
+use std::fs::File;
+use std::io::{BufRead, BufReader};
+use std::process::Stdio;
+
+use support::json::object;
+use support::volumes::{file, header, repeated_extent, small_volume, table, Extent, REPEATED};
+use support::Folder;
+
+/// Volume 0 with stored bytes, and volume 1 with the inode of a file that keeps some of them three
+/// times.
+fn folder(name: &str) -> Folder {
+    let folder = Folder::new(name);
+    folder.put("v0", &small_volume());
+    folder.put(
+        "v1",
+        &[header(1), table(&[]), file(8, 7, 14, &[repeated_extent()])].concat(),
+    );
+    folder
+}
+
+const HEADING: &str = "start length kind volume offset\n";
+
+#[test]
+fn all_runs() {
+    let folder = folder("runs_all");
+    let lines = "0 4 0 0 0\n4 2 1 0 98\n6 3 1 0 97\n9 2 1 0 97\n11 3 0 0 0\n";
+    folder
+        .run("runs v0 v1 --inode 7")
+        .is(0, &format!("{HEADING}{lines}"), "");
+    folder
+        .run("runs v1 --inode 7 v0")
+        .is(0, &format!("{HEADING}{lines}"), "");
+}
+
+#[test]
+fn a_range() {
+    let folder = folder("runs_range");
+    let ask = |range: &str| folder.run(&format!("runs v0 v1 --inode 7 {range}"));
+    ask("--from 5 --to 7").is(0, &format!("{HEADING}5 1 1 0 99\n6 1 1 0 97\n"), "");
+    ask("--from 12").is(0, &format!("{HEADING}12 2 0 0 0\n"), "");
+    ask("--to 2").is(0, &format!("{HEADING}0 2 0 0 0\n"), "");
+    ask("--from 7 --to 5").is(0, HEADING, "");
+    ask("--from 14").is(0, HEADING, "");
+}
+
+#[test]
+fn objects_for_machines() {
+    let answer = folder("runs_json").run("runs v0 v1 --inode 7 --to 6 --json");
+    let hole = object([
+        ("start", 0.into()),
+        ("length", 4.into()),
+        ("kind", "hole".into()),
+    ]);
+    let stored = object([
+        ("start", 4.into()),
+        ("length", 2.into()),
+        ("kind", "stored".into()),
+        ("volume", 0.into()),
+        ("offset", 98.into()),
+    ]);
+    assert_eq!(answer.objects(), [hole, stored]);
+    assert_eq!((answer.status, answer.err.as_str()), (0, ""));
+}
+
+#[test]
+fn what_is_refused() {
+    let folder = folder("runs_refused");
+    let missing = "v1: refused 16 at 93: volume or range is not there\n";
+    folder.run("runs v1 --inode 7").is(1, "", missing);
+    folder
+        .run("runs v1 --inode 7 --from 9 --to 2")
+        .is(1, "", missing);
+    let none = "hdrfs: no inode 8 in the volumes given\n";
+    folder.run("runs v0 v1 --inode 8").is(1, "", none);
+    let twice = "v0: has sequence number 0, as has v0\n";
+    folder.run("runs v0 v1 v0 --inode 7").is(1, "", twice);
+    folder.put("v0", &small_volume()[..103]);
+    let cut = "v0: refused 2 at 80: bytes end too early\n";
+    folder.run("runs v1 v0 --inode 7").is(1, "", cut);
+    let answer = folder.run("runs v1 none --inode 7");
+    assert_eq!((answer.status, answer.out.as_str()), (2, ""));
+    assert!(answer.err.starts_with("none: cannot be read"), "{answer:?}");
+}
+
+#[test]
+fn refusals_for_machines() {
+    let folder = folder("runs_json_refused");
+    let answer = folder.run("runs v1 --inode 7 --json");
+    let refused = object([
+        ("file", "v1".into()),
+        ("refused", 16.into()),
+        ("offset", 93.into()),
+        ("words", "volume or range is not there".into()),
+    ]);
+    assert_eq!(answer.objects(), [refused]);
+    assert_eq!((answer.status, answer.err.as_str()), (1, ""));
+    let answer = folder.run("runs v1 --inode 8 --json");
+    let none = object([("error", "no inode 8 in the volumes given".into())]);
+    assert_eq!(answer.objects(), [none]);
+    assert_eq!((answer.status, answer.err.as_str()), (1, ""));
+}
+
+#[test]
+fn a_reader_that_goes_away_ends_the_command() {
+    let folder = Folder::new("runs_pipe");
+    // Its runs would take longer to print than anybody lives.
+    let endless = Extent {
+        multiplicity: REPEATED,
+        count: u64::MAX,
+        ..Extent::once(0, 97, 1, 0)
+    };
+    folder.put(
+        "v0",
+        &[small_volume(), file(8, 7, u64::MAX, &[endless])].concat(),
+    );
+    let mut command = folder.command();
+    command.args(["runs", "v0", "--inode", "7"]);
+    let mut child = command
+        .stdout(Stdio::piped())
+        .stderr(Stdio::piped())
+        .spawn()
+        .unwrap();
+    let mut lines = BufReader::new(child.stdout.take().unwrap()).lines();
+    assert_eq!(lines.nth(1).unwrap().unwrap(), "0 1 1 0 97");
+    drop(lines);
+    let output = child.wait_with_output().unwrap();
+    assert!(output.status.code().is_some());
+    assert_eq!(String::from_utf8_lossy(&output.stderr), "");
+}
+
+#[cfg(target_os = "linux")]
+#[test]
+fn output_that_cannot_be_written_is_no_success() {
+    let folder = folder("runs_full");
+    for line in [
+        "runs v0 v1 --inode 7",
+        "list v0",
+        "check v0",
+        "--help",
+        "check v0 --json",
+    ] {
+        let full = File::options().write(true).open("/dev/full").unwrap();
+        let mut command = folder.command();
+        let output = command.args(line.split(' ')).stdout(full).output().unwrap();
+        assert_eq!(output.status.code(), Some(2), "{line}");
+        let said = String::from_utf8_lossy(&output.stderr);
+        assert!(
+            said.starts_with("hdrfs: cannot write to standard output"),
+            "{line}: {said}"
+        );
+    }
+}

@@ -1,0 +1,86 @@
+//! Running the command, in a folder of its own for each test.
+#![allow(dead_code)] // Each test file uses a part of this one.
+
+pub mod json;
+
+#[path = "../../../hdrfs/tests/support/mod.rs"]
+pub mod volumes;
+
+use std::ffi::OsStr;
+use std::fs;
+use std::path::{Path, PathBuf};
+use std::process::{Command, Output};
+
+/// A folder that begins empty.
+pub struct Folder(pub PathBuf);
+
+impl Folder {
+    pub fn new(name: &str) -> Folder {
+        let path = Path::new(env!("CARGO_TARGET_TMPDIR")).join(name);
+        let _ = fs::remove_dir_all(&path);
+        fs::create_dir_all(&path).unwrap();
+        Folder(path)
+    }
+
+    pub fn put(&self, name: &str, bytes: &[u8]) {
+        fs::write(self.0.join(name), bytes).unwrap();
+    }
+
+    pub fn read(&self, name: &str) -> Vec<u8> {
+        fs::read(self.0.join(name)).unwrap()
+    }
+
+    /// The names of all files in it, sorted: also of those that a command should have removed.
+    pub fn names(&self) -> Vec<String> {
+        let entries = fs::read_dir(&self.0).unwrap();
+        let name = |entry: fs::DirEntry| entry.file_name().to_string_lossy().into_owned();
+        let mut names: Vec<String> = entries.map(|entry| name(entry.unwrap())).collect();
+        names.sort();
+        names
+    }
+
+    /// The command, to be run in this folder.
+    pub fn command(&self) -> Command {
+        let mut command = Command::new(env!("CARGO_BIN_EXE_hdrfs"));
+        command.current_dir(&self.0);
+        command
+    }
+
+    /// Runs the command with the words of a line.
+    pub fn run(&self, line: &str) -> Answer {
+        self.run_words(line.split_whitespace())
+    }
+
+    pub fn run_words(&self, words: impl IntoIterator<Item = impl AsRef<OsStr>>) -> Answer {
+        Answer::new(self.command().args(words).output().unwrap())
+    }
+}
+
+/// What a run printed, and its exit status.
+#[derive(Debug, PartialEq, Eq)]
+pub struct Answer {
+    pub status: i32,
+    pub out: String,
+    pub err: String,
+}
+
+impl Answer {
+    fn new(output: Output) -> Answer {
+        Answer {
+            status: output.status.code().expect("the command ended by itself"),
+            out: String::from_utf8(output.stdout).unwrap(),
+            err: String::from_utf8(output.stderr).unwrap(),
+        }
+    }
+
+    /// Compares all three at once, so that a failed test shows them all.
+    pub fn is(&self, status: i32, out: &str, err: &str) {
+        let (out, err) = (out.to_string(), err.to_string());
+        assert_eq!(*self, Answer { status, out, err });
+    }
+
+    /// The objects that were printed.
+    pub fn objects(&self) -> Vec<json::Object> {
+        self.out.lines().map(json::parse).collect()
+    }
+}

@@ -1,0 +1,183 @@
+//! Inputs for benchmarks. All are accepted and all have 16 MiB.
+
+use crate::image::{self, Extent, Stat, COUNTED, LIMIT, REPEATED};
+use crate::rng::Rng;
+
+/// The order in which extents or links stand.
+#[derive(Clone, Copy, Debug, PartialEq, Eq)]
+pub enum Order {
+    Rising,
+    Falling,
+    Shuffled,
+}
+
+/// A volume with a name to print.
+pub struct Input {
+    pub name: &'static str,
+    pub volume: Vec<u8>,
+}
+
+/// All inputs of this file, made one at a time.
+pub fn inputs() -> impl Iterator<Item = Input> {
+    type Make = fn() -> Vec<u8>;
+    let list: [(&'static str, Make); 10] = [
+        ("one data block", one_data_block),
+        ("data blocks of 100 bytes", small_data_blocks),
+        ("mixed blocks of 100 bytes", small_mixed_blocks),
+        ("1,024 extents, rising", || inodes(Order::Rising)),
+        ("1,024 extents, falling", || inodes(Order::Falling)),
+        ("1,024 extents, shuffled", || inodes(Order::Shuffled)),
+        ("4,096 short names", || table_short_names(Order::Shuffled)),
+        ("4,096 long names, rising", || {
+            table_long_names(Order::Rising)
+        }),
+        ("4,096 long names, falling", || {
+            table_long_names(Order::Falling)
+        }),
+        ("4,096 long names, shuffled", || {
+            table_long_names(Order::Shuffled)
+        }),
+    ];
+    list.into_iter().map(|(name, make)| Input {
+        name,
+        volume: make(),
+    })
+}
+
+/// A header that a benchmark input begins with.
+fn start(sequence: u64) -> Vec<u8> {
+    let mut volume = Vec::with_capacity(LIMIT);
+    let previous = [u8::from(sequence > 0); 32];
+    volume.extend_from_slice(&image::header(sequence, &[7; 16], &previous));
+    volume
+}
+
+/// Fills up to 16 MiB with one data block, if there is room for one.
+fn fill(volume: &mut Vec<u8>, time: u64) {
+    if let Some(length) = (LIMIT - volume.len()).checked_sub(21) {
+        let payload = Rng::new(time).bytes(length);
+        volume.extend_from_slice(&image::data(time, &payload));
+    }
+}
+
+/// One data block.
+pub fn one_data_block() -> Vec<u8> {
+    let mut volume = start(0);
+    fill(&mut volume, 1);
+    volume
+}
+
+/// Data blocks of 100 bytes.
+pub fn small_data_blocks() -> Vec<u8> {
+    let payload = Rng::new(5).bytes(79);
+    blocks_of_100(|time| image::data(time, &payload))
+}
+
+/// Links, unlinks, attributes, renames and data, 100 bytes each.
+pub fn small_mixed_blocks() -> Vec<u8> {
+    let name = "water level ünïcödé ".repeat(4);
+    let name = name.as_bytes();
+    blocks_of_100(|time| match time % 6 {
+        0 => image::link(image::LINK, time, time, 1, &name[..69]),
+        1 => image::link(image::UNLINK, time, time, 1, &name[..69]),
+        2 => image::xattr(time, time, &name[..17], &name[..59]),
+        3 => image::removed(time, time, &name[..78]),
+        4 => image::rename(time, &name[..14], &name[..69]),
+        _ => image::data(time, &name[..79]),
+    })
+}
+
+fn blocks_of_100(make: impl Fn(u64) -> Vec<u8>) -> Vec<u8> {
+    let mut volume = start(0);
+    let mut time = 0;
+    while volume.len() + 121 <= LIMIT {
+        time += 1;
+        let image = make(time);
+        assert_eq!(image.len(), 100);
+        volume.extend_from_slice(&image);
+    }
+    fill(&mut volume, time + 1);
+    volume
+}
+
+/// Inodes of regular files with 1,024 extents each, the first at 80.
+pub fn inodes(order: Order) -> Vec<u8> {
+    let mut rng = Rng::new(11);
+    let mut volume = start(0);
+    let mut time = 0;
+    while volume.len() + 58_443 <= LIMIT {
+        time += 1;
+        let mut list: Vec<Extent> = (0..1_024).map(bench_extent).collect();
+        arrange(&mut rng, &mut list, order);
+        let stat = Stat {
+            inode: time,
+            time,
+            mode: 0x81A4,
+            uid: 1,
+            gid: 1,
+            stamps: [time; 4],
+            size: 1_024 * 100,
+        };
+        volume.extend_from_slice(&image::inode(&stat, &image::extent_bytes(&list)));
+    }
+    fill(&mut volume, time + 1);
+    volume
+}
+
+/// Keeps the 90 positions from 100 k on.
+fn bench_extent(k: u64) -> Extent {
+    Extent {
+        volume: k % 8,
+        start: 80 + 128 * k,
+        size: 32,
+        multiplicity: [COUNTED, REPEATED][k as usize % 2],
+        count: 3,
+        pre: 5,
+        post: 1,
+        logical: 100 * k,
+    }
+}
+
+/// Volume lengths that suffice for [`inodes`].
+pub fn lengths() -> Vec<u8> {
+    [LIMIT as u64; 8]
+        .iter()
+        .flat_map(|length| length.to_le_bytes())
+        .collect()
+}
+
+fn arrange<T>(rng: &mut Rng, list: &mut [T], order: Order) {
+    match order {
+        Order::Rising => {}
+        Order::Falling => list.reverse(),
+        Order::Shuffled => rng.shuffle(list),
+    }
+}
+
+/// A table of 4,096 links with names of a few bytes, and data behind it.
+pub fn table_short_names(order: Order) -> Vec<u8> {
+    table_of(order, 4_096, 5)
+}
+
+/// A table of 4,096 links that fills the volume; the names differ in their
+/// last bytes only.
+pub fn table_long_names(order: Order) -> Vec<u8> {
+    table_of(order, 4_096, 4_077)
+}
+
+/// A table of links in one folder, with names of that length (at least 5),
+/// equal but for the last five bytes, and data behind it if it fits.
+pub fn table_of(order: Order, links: u64, length: usize) -> Vec<u8> {
+    let mut list: Vec<Vec<u8>> = (0..links)
+        .map(|k| {
+            let mut name = vec![b'n'; length - 5];
+            name.extend_from_slice(format!("{k:05}").as_bytes());
+            image::table_link(k, 1, &name)
+        })
+        .collect();
+    arrange(&mut Rng::new(13), &mut list, order);
+    let mut volume = start(1);
+    volume.extend_from_slice(&image::table(links, &list.concat()));
+    fill(&mut volume, 1);
+    volume
+}

@@ -1,0 +1,67 @@
+//! Reads HDRFS volumes, the format in which water-level networks keep their yearly archives.
+//!
+//! All that is decided about bytes is decided in a proved library, which this crate links. Nothing
+//! is copied: names, payloads and stored bytes are parts of the volumes that the caller lends.
+//!
+//! - [`Volume::check`] checks a whole volume, [`Volume::blocks`] walks its blocks; a [`LinkTable`]
+//!   is walked link by link.
+//! - [`File`] says where the bytes of a regular file are stored: at a position, or in runs.
+//! - [`fetch`] hands out stored bytes.
+//!
+//! A call that cannot do what it is asked answers a [`Refusal`], with a number, a place and plain
+//! words.
+//!
+//! ```
+//! use hdrfs::{fetch, Content, File, Lengths, Volume};
+//! # std::env::set_current_dir("../../crates/samples/data")?;
+//!
+//! let (first, second) = (std::fs::read("v.vol")?, std::fs::read("all_kinds.vol")?);
+//! let mut lengths = Lengths::new();
+//! for bytes in [&first, &second] {
+//!     lengths.set(Volume::check(bytes)?.sequence(), bytes.len() as u64)?;
+//! }
+//! for block in Volume::blocks(&second) {
+//!     let block = block?;
+//!     let Content::Inode(inode) = block.content else { continue };
+//!     if !inode.is_regular() { continue }
+//!     for run in File::new(&second, block.offset, &lengths).all_runs() {
+//!         let run = run?;
+//!         if let Some(place) = run.stored {
+//!             let bytes = fetch(&first, &second, place.volume, place.offset, run.len)?;
+//!             println!("{} bytes at position {}: {bytes:?}", run.len, run.start);
+//!         }
+//!     }
+//! }
+//! # Ok::<(), Box<dyn std::error::Error>>(())
+//! ```
+#![deny(missing_docs)]
+#![deny(unsafe_code)]
+
+mod blocks;
+mod bookmark;
+mod fetch;
+mod file;
+mod lengths;
+mod links;
+mod pace;
+mod refusal;
+mod runs;
+#[allow(unsafe_code)]
+pub mod sys;
+mod volume;
+mod walk;
+
+pub use blocks::{Block, Blocks, Content, Inode};
+pub use bookmark::Bookmark;
+pub use fetch::fetch;
+pub use file::{File, Logical, Physical, Place, Stored};
+pub use lengths::Lengths;
+pub use links::{Link, LinkTable, Links};
+pub use refusal::Refusal;
+pub use runs::{Run, Runs};
+pub use volume::{Checked, Heading, Volume, MAX_VOLUME_LEN};
+
+/// The example of the repository's README, compiled with the documentation's.
+#[cfg(doctest)]
+#[doc = include_str!("../../../README.md")]
+struct Readme;

@@ -1,0 +1,65 @@
+//! A whole volume, from the header to the last block.
+
+use crate::block::{read_with, Bookmark, Reading};
+use crate::crc;
+use crate::header::read_header;
+
+#[derive(Clone, Copy, Debug, PartialEq, Eq)]
+pub enum Verdict {
+    Accepted {
+        sequence: u64,
+        /// Blocks after the header, a table among them.
+        blocks: u64,
+        end: Bookmark,
+    },
+    Refused {
+        number: u64,
+        /// Where the header or block at fault begins.
+        offset: u64,
+        /// Blocks before it.
+        blocks: u64,
+    },
+}
+
+/// Checks a whole volume.
+pub fn check(volume: &[u8]) -> Verdict {
+    check_with(volume, crc::slicing)
+}
+
+/// Like [`check`], with a chosen form of the checksum for the blocks.
+pub fn check_with(volume: &[u8], crc: impl Fn(&[u8]) -> u32) -> Verdict {
+    let header = match read_header(volume) {
+        Ok(header) => header,
+        Err(number) => {
+            return Verdict::Refused {
+                number,
+                offset: 0,
+                blocks: 0,
+            }
+        }
+    };
+    let mut mark = header.next;
+    let mut blocks = 0;
+    loop {
+        match read_with(volume, mark, &crc) {
+            Ok(Reading::Block(_, next)) => {
+                mark = next;
+                blocks += 1;
+            }
+            Ok(Reading::End) => {
+                return Verdict::Accepted {
+                    sequence: header.sequence,
+                    blocks,
+                    end: mark,
+                }
+            }
+            Err(number) => {
+                return Verdict::Refused {
+                    number,
+                    offset: mark.offset,
+                    blocks,
+                }
+            }
+        }
+    }
+}

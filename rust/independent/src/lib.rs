@@ -1,0 +1,53 @@
+//! A second reader and writer of HDRFS volumes, in ordinary Rust.
+//!
+//! It exists to be compared with another implementation: by tests, answer
+//! against answer, and by benchmarks, time against time. It shares no code
+//! with what it is compared to.
+//!
+//! Every call works on lent bytes and answers any input. Refusals are plain
+//! numbers; [`refusal`] names them.
+
+#![forbid(unsafe_code)]
+
+pub mod block;
+mod bytes;
+pub mod check;
+pub mod crc;
+pub mod extent;
+pub mod fetch;
+pub mod header;
+pub mod links;
+pub mod listing;
+pub mod lookup;
+pub mod refusal;
+pub mod runs;
+pub mod utf8;
+pub mod write;
+
+pub use block::{read, read_with, Block, Body, Bookmark, Part, Reading, Stat};
+pub use check::{check, check_with, Verdict};
+pub use extent::Extent;
+pub use fetch::fetch;
+pub use header::{read_header, Header};
+pub use listing::listing;
+pub use lookup::{lookup, lookup_with, Place};
+pub use runs::{run_count, runs, runs_with};
+pub use write::{
+    append_data, append_inode, append_link, append_removed_xattr, append_rename, append_table,
+    append_unlink, append_xattr, write_header,
+};
+
+/// The longest volume that is read or written, in bytes.
+pub const VOLUME_LIMIT: usize = 16_777_216;
+
+/// Bytes in a header.
+pub const HEADER_LENGTH: usize = 80;
+
+/// The most extents of one regular file.
+pub const EXTENT_LIMIT: u64 = 1_024;
+
+/// The most links of one table.
+pub const LINK_LIMIT: u64 = 4_096;
+
+/// The most volume lengths that a lookup is lent.
+pub const LENGTHS_LIMIT: usize = 4_096;

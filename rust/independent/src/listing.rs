@@ -1,0 +1,43 @@
+//! The listing of a volume as text.
+
+use std::fmt::Write;
+
+use crate::block::{read, Reading};
+use crate::header::read_header;
+use crate::refusal::TOO_LONG;
+
+/// The longest volume that is listed, in bytes.
+pub const LISTING_LIMIT: usize = 65_536;
+
+/// A heading, a line for each accepted block and a closing line.
+pub fn listing(volume: &[u8]) -> String {
+    let mut text = String::from("offset id length\n");
+    let last = if volume.len() > LISTING_LIMIT {
+        Err((TOO_LONG, 0))
+    } else {
+        list_blocks(volume, &mut text)
+    };
+    match last {
+        Ok((offset, blocks)) => writeln!(text, "end {offset} blocks {blocks}"),
+        Err((number, offset)) => writeln!(text, "refused {number} at {offset}"),
+    }
+    .expect("a string takes all text");
+    text
+}
+
+/// The end and the number of blocks, or the refusal and where.
+fn list_blocks(volume: &[u8], text: &mut String) -> Result<(u64, u64), (u64, u64)> {
+    let mut mark = read_header(volume).map_err(|number| (number, 0))?.next;
+    let mut blocks = 0;
+    loop {
+        match read(volume, mark).map_err(|number| (number, mark.offset))? {
+            Reading::End => return Ok((mark.offset, blocks)),
+            Reading::Block(block, next) => {
+                writeln!(text, "{} {} {}", block.offset, block.id, block.length)
+                    .expect("a string takes all text");
+                mark = next;
+                blocks += 1;
+            }
+        }
+    }
+}

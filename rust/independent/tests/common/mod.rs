@@ -1,0 +1,175 @@
+//! Bytes of headers and blocks, put together by hand.
+#![allow(dead_code)]
+
+use independent::{crc, Bookmark, Verdict};
+
+pub const REGULAR: u16 = 0x81A4;
+pub const SYMBOLIC: u16 = 0xA1FF;
+pub const FOLDER: u16 = 0x41ED;
+pub const TOP: u64 = u64::MAX;
+
+/// Appends the checksum, worked out bit by bit.
+pub fn sealed(mut bytes: Vec<u8>) -> Vec<u8> {
+    let value = crc::bits(&bytes);
+    bytes.extend(value.to_le_bytes());
+    bytes
+}
+
+/// Sets bytes of an image and mends its checksum.
+pub fn changed(image: &[u8], at: usize, new: &[u8]) -> Vec<u8> {
+    let mut bytes = image[..image.len() - 4].to_vec();
+    bytes[at..at + new.len()].copy_from_slice(new);
+    sealed(bytes)
+}
+
+/// An image whose checksum is wrong.
+pub fn spoiled(mut image: Vec<u8>) -> Vec<u8> {
+    *image.last_mut().unwrap() ^= 1;
+    image
+}
+
+pub fn header(sequence: u64) -> Vec<u8> {
+    let mut bytes = vec![
+        0xD3, 0x48, 0x44, 0x52, 0x46, 0x53, 0x0D, 0x0A, 0x1A, 0x0A, 0x00, 0x48, 0x44, 0x52, 0x46,
+        0x53, 0x00,
+    ];
+    bytes.push(0);
+    bytes.extend([7; 16]);
+    bytes.extend([0, 0]);
+    bytes.extend(sequence.to_le_bytes());
+    bytes.extend([if sequence == 0 { 0 } else { 9 }; 32]);
+    sealed(bytes)
+}
+
+pub fn inode_stating(time: u64, mode: u16, size: u64, n: u64, variable: &[u8]) -> Vec<u8> {
+    let mut bytes = vec![1];
+    bytes.extend(5u64.to_le_bytes());
+    bytes.extend(time.to_le_bytes());
+    bytes.extend(mode.to_le_bytes());
+    bytes.extend([1, 0, 2, 0]);
+    for stamp in [11u64, 12, 13, 14] {
+        bytes.extend(stamp.to_le_bytes());
+    }
+    bytes.extend(size.to_le_bytes());
+    bytes.extend(n.to_le_bytes());
+    bytes.extend(variable);
+    sealed(bytes)
+}
+
+pub fn inode(time: u64, mode: u16, size: u64, variable: &[u8]) -> Vec<u8> {
+    inode_stating(time, mode, size, variable.len() as u64, variable)
+}
+
+pub fn link(id: u8, time: u64, name: &[u8]) -> Vec<u8> {
+    let mut bytes = vec![id];
+    for number in [time, 5, 1] {
+        bytes.extend(number.to_le_bytes());
+    }
+    bytes.extend((name.len() as u16).to_le_bytes());
+    bytes.extend(name);
+    sealed(bytes)
+}
+
+pub fn xattr(time: u64, name: &[u8], value: &[u8]) -> Vec<u8> {
+    let mut bytes = vec![4];
+    for number in [time, 5] {
+        bytes.extend(number.to_le_bytes());
+    }
+    bytes.push(name.len() as u8);
+    bytes.extend((value.len() as u16).to_le_bytes());
+    bytes.extend(name);
+    bytes.extend(value);
+    sealed(bytes)
+}
+
+pub fn removed_xattr(time: u64, name: &[u8]) -> Vec<u8> {
+    let mut bytes = vec![5];
+    for number in [time, 5] {
+        bytes.extend(number.to_le_bytes());
+    }
+    bytes.push(name.len() as u8);
+    bytes.extend(name);
+    sealed(bytes)
+}
+
+pub fn data(time: u64, payload: &[u8]) -> Vec<u8> {
+    let mut bytes = vec![6];
+    bytes.extend(time.to_le_bytes());
+    bytes.extend((payload.len() as u64).to_le_bytes());
+    bytes.extend(payload);
+    sealed(bytes)
+}
+
+pub fn rename(time: u64, old: &[u8], new: &[u8]) -> Vec<u8> {
+    let mut bytes = vec![7];
+    bytes.extend(time.to_le_bytes());
+    bytes.extend((old.len() as u16).to_le_bytes());
+    bytes.extend((new.len() as u16).to_le_bytes());
+    bytes.extend(old);
+    bytes.extend(new);
+    sealed(bytes)
+}
+
+pub fn table_link(child: u64, parent: u64, name: &[u8]) -> Vec<u8> {
+    let mut bytes = child.to_le_bytes().to_vec();
+    bytes.extend(parent.to_le_bytes());
+    bytes.extend((name.len() as u16).to_le_bytes());
+    bytes.extend(name);
+    bytes
+}
+
+pub fn table(count: u64, links: &[u8]) -> Vec<u8> {
+    let mut bytes = vec![8];
+    bytes.extend(count.to_le_bytes());
+    bytes.extend(links);
+    sealed(bytes)
+}
+
+/// Volume, start, size, multiplicity, count, pre, post, logical start.
+pub type Fields = (u64, u64, u64, u8, u64, u64, u64, u64);
+
+pub fn extents(list: &[Fields]) -> Vec<u8> {
+    let mut bytes = Vec::new();
+    for &(volume, start, size, multiplicity, count, pre, post, logical) in list {
+        for number in [volume, start, size] {
+            bytes.extend(number.to_le_bytes());
+        }
+        bytes.push(multiplicity);
+        for number in [count, pre, post, logical] {
+            bytes.extend(number.to_le_bytes());
+        }
+    }
+    bytes
+}
+
+/// A volume from its header's number and its blocks.
+pub fn volume(sequence: u64, blocks: &[Vec<u8>]) -> Vec<u8> {
+    let mut bytes = header(sequence);
+    for block in blocks {
+        bytes.extend(block);
+    }
+    bytes
+}
+
+/// Volume 0 with one regular file.
+pub fn file(size: u64, list: &[Fields]) -> Vec<u8> {
+    volume(0, &[inode(1, REGULAR, size, &extents(list))])
+}
+
+pub fn lengths(list: &[u64]) -> Vec<u8> {
+    list.iter()
+        .flat_map(|length| length.to_le_bytes())
+        .collect()
+}
+
+pub fn mark(offset: u64, due: bool, last: Option<u64>) -> Bookmark {
+    Bookmark { offset, due, last }
+}
+
+pub fn refused(number: u64, offset: u64, blocks: u64) -> Verdict {
+    Verdict::Refused {
+        number,
+        offset,
+        blocks,
+    }
+}

@@ -1,0 +1,307 @@
+/* Calls every function of hdrfs.h on two sound volumes, on no bytes at all, and on numbers from the edges, and prints the
+ * numbers that come back, a line for each call, in the order of the struct. calls.expected has what it must print.
+ *
+ * The two volumes are the samples v.vol and all_kinds.vol.
+ */
+#include "hdrfs.h"
+
+#include <inttypes.h>
+#include <stdio.h>
+
+/* ---- The layout of the structs: as many numbers of 8 bytes as there are fields, one after the other. */
+
+#define IS_NUMBER(type, field, place)                                                                       \
+    _Static_assert(offsetof(type, field) == 8 * (place), #type "." #field " stands elsewhere");             \
+    _Static_assert(sizeof(((type *)0)->field) == 8, #type "." #field " is no number of 8 bytes")
+#define HAS_FIELDS(type, count) _Static_assert(sizeof(type) == 8 * (count), #type " has another size")
+
+IS_NUMBER(hdrfs_checked, refusal, 0);
+IS_NUMBER(hdrfs_checked, sequence, 1);
+IS_NUMBER(hdrfs_checked, blocks, 2);
+IS_NUMBER(hdrfs_checked, offset, 3);
+IS_NUMBER(hdrfs_checked, timed, 4);
+IS_NUMBER(hdrfs_checked, time, 5);
+HAS_FIELDS(hdrfs_checked, 6);
+
+IS_NUMBER(hdrfs_place, refusal, 0);
+IS_NUMBER(hdrfs_place, kind, 1);
+IS_NUMBER(hdrfs_place, volume, 2);
+IS_NUMBER(hdrfs_place, offset, 3);
+HAS_FIELDS(hdrfs_place, 4);
+
+IS_NUMBER(hdrfs_run_count, refusal, 0);
+IS_NUMBER(hdrfs_run_count, count, 1);
+HAS_FIELDS(hdrfs_run_count, 2);
+
+IS_NUMBER(hdrfs_heading, refusal, 0);
+IS_NUMBER(hdrfs_heading, sequence, 1);
+IS_NUMBER(hdrfs_heading, next, 2);
+IS_NUMBER(hdrfs_heading, due, 3);
+HAS_FIELDS(hdrfs_heading, 4);
+
+IS_NUMBER(hdrfs_block, refusal, 0);
+IS_NUMBER(hdrfs_block, end, 1);
+IS_NUMBER(hdrfs_block, id, 2);
+IS_NUMBER(hdrfs_block, next, 3);
+IS_NUMBER(hdrfs_block, due, 4);
+IS_NUMBER(hdrfs_block, timed, 5);
+IS_NUMBER(hdrfs_block, last, 6);
+IS_NUMBER(hdrfs_block, time, 7);
+IS_NUMBER(hdrfs_block, inode, 8);
+IS_NUMBER(hdrfs_block, child, 9);
+IS_NUMBER(hdrfs_block, parent, 10);
+IS_NUMBER(hdrfs_block, mode, 11);
+IS_NUMBER(hdrfs_block, uid, 12);
+IS_NUMBER(hdrfs_block, gid, 13);
+IS_NUMBER(hdrfs_block, atime, 14);
+IS_NUMBER(hdrfs_block, mtime, 15);
+IS_NUMBER(hdrfs_block, ctime, 16);
+IS_NUMBER(hdrfs_block, btime, 17);
+IS_NUMBER(hdrfs_block, size, 18);
+IS_NUMBER(hdrfs_block, count, 19);
+IS_NUMBER(hdrfs_block, part, 20);
+IS_NUMBER(hdrfs_block, part_len, 21);
+IS_NUMBER(hdrfs_block, second, 22);
+IS_NUMBER(hdrfs_block, second_len, 23);
+HAS_FIELDS(hdrfs_block, 24);
+
+IS_NUMBER(hdrfs_link_entry, missing, 0);
+IS_NUMBER(hdrfs_link_entry, child, 1);
+IS_NUMBER(hdrfs_link_entry, parent, 2);
+IS_NUMBER(hdrfs_link_entry, name, 3);
+IS_NUMBER(hdrfs_link_entry, name_len, 4);
+IS_NUMBER(hdrfs_link_entry, next, 5);
+HAS_FIELDS(hdrfs_link_entry, 6);
+
+IS_NUMBER(hdrfs_source, refusal, 0);
+IS_NUMBER(hdrfs_source, which, 1);
+HAS_FIELDS(hdrfs_source, 2);
+
+/* A slice is a pointer and a length that fit the registers of a call. */
+_Static_assert(sizeof(size_t) == 8 && sizeof(void *) == 8, "a length or an address has not 8 bytes");
+
+/* ---- The volumes, and their lengths as lookups take them. */
+
+/* Volume 0: one data block, whose payload stands at 97. */
+static const uint8_t V[104] = {
+    0xd3, 0x48, 0x44, 0x52, 0x46, 0x53, 0x0d, 0x0a, 0x1a, 0x0a, 0x00, 0x48, 0x44, 0x52, 0x46, 0x53,
+    0x00, 0x00, 0x00, 0x01, 0x02, 0x03, 0x04, 0x05, 0x06, 0x07, 0x08, 0x09, 0x0a, 0x0b, 0x0c, 0x0d,
+    0x0e, 0x0f, 0x00, 0x00, 0x00, 0x00, 0x00, 0x00, 0x00, 0x00, 0x00, 0x00, 0x00, 0x00, 0x00, 0x00,
+    0x00, 0x00, 0x00, 0x00, 0x00, 0x00, 0x00, 0x00, 0x00, 0x00, 0x00, 0x00, 0x00, 0x00, 0x00, 0x00,
+    0x00, 0x00, 0x00, 0x00, 0x00, 0x00, 0x00, 0x00, 0x00, 0x00, 0x00, 0x00, 0x1a, 0xbc, 0x19, 0x0b,
+    0x06, 0x07, 0x00, 0x00, 0x00, 0x00, 0x00, 0x00, 0x00, 0x03, 0x00, 0x00, 0x00, 0x00, 0x00, 0x00,
+    0x00, 0x31, 0x2c, 0x35, 0x38, 0xcb, 0x01, 0x12,
+};
+
+/* Volume 1: a link table, inodes of a regular file, a symbolic link and a folder, and a block of each other kind. The
+ * regular file keeps the positions 0 to 3 and 4 to 11 of 14; its inode block stands at FILE_AT. */
+static const uint8_t ALL[659] = {
+    0xd3, 0x48, 0x44, 0x52, 0x46, 0x53, 0x0d, 0x0a, 0x1a, 0x0a, 0x00, 0x48, 0x44, 0x52, 0x46, 0x53,
+    0x00, 0x00, 0x00, 0x01, 0x02, 0x03, 0x04, 0x05, 0x06, 0x07, 0x08, 0x09, 0x0a, 0x0b, 0x0c, 0x0d,
+    0x0e, 0x0f, 0x00, 0x00, 0x01, 0x00, 0x00, 0x00, 0x00, 0x00, 0x00, 0x00, 0x09, 0x09, 0x09, 0x09,
+    0x09, 0x09, 0x09, 0x09, 0x09, 0x09, 0x09, 0x09, 0x09, 0x09, 0x09, 0x09, 0x09, 0x09, 0x09, 0x09,
+    0x09, 0x09, 0x09, 0x09, 0x09, 0x09, 0x09, 0x09, 0x09, 0x09, 0x09, 0x09, 0xb6, 0xbb, 0x5a, 0xb0,
+    0x08, 0x02, 0x00, 0x00, 0x00, 0x00, 0x00, 0x00, 0x00, 0x08, 0x00, 0x00, 0x00, 0x00, 0x00, 0x00,
+    0x00, 0x01, 0x00, 0x00, 0x00, 0x00, 0x00, 0x00, 0x00, 0x05, 0x00, 0x67, 0x61, 0x75, 0x67, 0x65,
+    0x09, 0x00, 0x00, 0x00, 0x00, 0x00, 0x00, 0x00, 0x01, 0x00, 0x00, 0x00, 0x00, 0x00, 0x00, 0x00,
+    0x03, 0x00, 0x6c, 0x6f, 0x67, 0x8e, 0x23, 0x9b, 0xc8, 0x01, 0x07, 0x00, 0x00, 0x00, 0x00, 0x00,
+    0x00, 0x00, 0x01, 0x00, 0x00, 0x00, 0x00, 0x00, 0x00, 0x00, 0xa4, 0x81, 0x01, 0x00, 0x02, 0x00,
+    0x03, 0x00, 0x00, 0x00, 0x00, 0x00, 0x00, 0x00, 0x04, 0x00, 0x00, 0x00, 0x00, 0x00, 0x00, 0x00,
+    0x05, 0x00, 0x00, 0x00, 0x00, 0x00, 0x00, 0x00, 0x06, 0x00, 0x00, 0x00, 0x00, 0x00, 0x00, 0x00,
+    0x0e, 0x00, 0x00, 0x00, 0x00, 0x00, 0x00, 0x00, 0x72, 0x00, 0x00, 0x00, 0x00, 0x00, 0x00, 0x00,
+    0x00, 0x00, 0x00, 0x00, 0x00, 0x00, 0x00, 0x00, 0x61, 0x00, 0x00, 0x00, 0x00, 0x00, 0x00, 0x00,
+    0x03, 0x00, 0x00, 0x00, 0x00, 0x00, 0x00, 0x00, 0x43, 0x01, 0x00, 0x00, 0x00, 0x00, 0x00, 0x00,
+    0x00, 0x00, 0x00, 0x00, 0x00, 0x00, 0x00, 0x00, 0x00, 0x00, 0x00, 0x00, 0x00, 0x00, 0x00, 0x00,
+    0x00, 0x00, 0x00, 0x00, 0x00, 0x00, 0x00, 0x00, 0x00, 0x00, 0x00, 0x00, 0x00, 0x00, 0x00, 0x00,
+    0x00, 0x61, 0x00, 0x00, 0x00, 0x00, 0x00, 0x00, 0x00, 0x03, 0x00, 0x00, 0x00, 0x00, 0x00, 0x00,
+    0x00, 0x52, 0x03, 0x00, 0x00, 0x00, 0x00, 0x00, 0x00, 0x00, 0x01, 0x00, 0x00, 0x00, 0x00, 0x00,
+    0x00, 0x00, 0x01, 0x00, 0x00, 0x00, 0x00, 0x00, 0x00, 0x00, 0x04, 0x00, 0x00, 0x00, 0x00, 0x00,
+    0x00, 0x00, 0xcb, 0x8a, 0x60, 0x14, 0x01, 0x07, 0x00, 0x00, 0x00, 0x00, 0x00, 0x00, 0x00, 0x02,
+    0x00, 0x00, 0x00, 0x00, 0x00, 0x00, 0x00, 0xff, 0xa1, 0x01, 0x00, 0x02, 0x00, 0x03, 0x00, 0x00,
+    0x00, 0x00, 0x00, 0x00, 0x00, 0x04, 0x00, 0x00, 0x00, 0x00, 0x00, 0x00, 0x00, 0x05, 0x00, 0x00,
+    0x00, 0x00, 0x00, 0x00, 0x00, 0x06, 0x00, 0x00, 0x00, 0x00, 0x00, 0x00, 0x00, 0x4b, 0x00, 0x00,
+    0x00, 0x00, 0x00, 0x00, 0x00, 0x05, 0x00, 0x00, 0x00, 0x00, 0x00, 0x00, 0x00, 0x67, 0x61, 0x75,
+    0x67, 0x65, 0x58, 0x16, 0x03, 0x98, 0x01, 0x07, 0x00, 0x00, 0x00, 0x00, 0x00, 0x00, 0x00, 0x03,
+    0x00, 0x00, 0x00, 0x00, 0x00, 0x00, 0x00, 0xed, 0x41, 0x01, 0x00, 0x02, 0x00, 0x03, 0x00, 0x00,
+    0x00, 0x00, 0x00, 0x00, 0x00, 0x04, 0x00, 0x00, 0x00, 0x00, 0x00, 0x00, 0x00, 0x05, 0x00, 0x00,
+    0x00, 0x00, 0x00, 0x00, 0x00, 0x06, 0x00, 0x00, 0x00, 0x00, 0x00, 0x00, 0x00, 0x46, 0x00, 0x00,
+    0x00, 0x00, 0x00, 0x00, 0x00, 0x00, 0x00, 0x00, 0x00, 0x00, 0x00, 0x00, 0x00, 0x91, 0x20, 0x63,
+    0xb5, 0x02, 0x04, 0x00, 0x00, 0x00, 0x00, 0x00, 0x00, 0x00, 0x08, 0x00, 0x00, 0x00, 0x00, 0x00,
+    0x00, 0x00, 0x01, 0x00, 0x00, 0x00, 0x00, 0x00, 0x00, 0x00, 0x05, 0x00, 0x67, 0x61, 0x75, 0x67,
+    0x65, 0xa2, 0xb5, 0xfc, 0x1c, 0x03, 0x05, 0x00, 0x00, 0x00, 0x00, 0x00, 0x00, 0x00, 0x08, 0x00,
+    0x00, 0x00, 0x00, 0x00, 0x00, 0x00, 0x01, 0x00, 0x00, 0x00, 0x00, 0x00, 0x00, 0x00, 0x03, 0x00,
+    0x6c, 0x6f, 0x67, 0xac, 0xbb, 0x76, 0xbf, 0x04, 0x06, 0x00, 0x00, 0x00, 0x00, 0x00, 0x00, 0x00,
+    0x07, 0x00, 0x00, 0x00, 0x00, 0x00, 0x00, 0x00, 0x04, 0x02, 0x00, 0x75, 0x6e, 0x69, 0x74, 0x6d,
+    0xff, 0x4c, 0xb9, 0x92, 0x44, 0x05, 0x07, 0x00, 0x00, 0x00, 0x00, 0x00, 0x00, 0x00, 0x07, 0x00,
+    0x00, 0x00, 0x00, 0x00, 0x00, 0x00, 0x04, 0x75, 0x6e, 0x69, 0x74, 0xaf, 0xb3, 0x4b, 0xff, 0x06,
+    0x08, 0x00, 0x00, 0x00, 0x00, 0x00, 0x00, 0x00, 0x03, 0x00, 0x00, 0x00, 0x00, 0x00, 0x00, 0x00,
+    0x31, 0x2c, 0x35, 0xf6, 0x5d, 0x9e, 0x51, 0x07, 0x09, 0x00, 0x00, 0x00, 0x00, 0x00, 0x00, 0x00,
+    0x05, 0x00, 0x06, 0x00, 0x67, 0x61, 0x75, 0x67, 0x65, 0x70, 0xc3, 0xa9, 0x67, 0x65, 0x6c, 0x0d,
+    0x33, 0xcd, 0xe0,
+};
+
+enum { TABLE_AT = 80, FILE_AT = 137, LINKS_AT = 89 };
+
+static const uint8_t LENGTHS[16] = {sizeof V, 0, 0, 0, 0, 0, 0, 0, sizeof ALL & 255, sizeof ALL / 256, 0, 0, 0, 0, 0, 0};
+
+#define TOP UINT64_MAX
+
+/* ---- Printing. */
+
+static void show(const char *call, const void *numbers, size_t size)
+{
+    const uint64_t *number = numbers;
+    printf("%s:", call);
+    for (size_t i = 0; i < size / 8; i++)
+        printf(" %" PRIu64, number[i]);
+    putchar('\n');
+}
+
+/* One call, its text and its numbers. */
+#define SHOW(type, call)                                                                                    \
+    do {                                                                                                    \
+        type answer = call;                                                                                 \
+        show(#call, &answer, sizeof answer);                                                                \
+    } while (0)
+
+/* ---- The calls. */
+
+static void check(void)
+{
+    SHOW(hdrfs_checked, hdrfs_check(V, sizeof V));
+    SHOW(uint64_t, hdrfs_check_refusal(V, sizeof V));
+    SHOW(uint64_t, hdrfs_check_sequence(V, sizeof V));
+    SHOW(uint64_t, hdrfs_check_blocks(V, sizeof V));
+    SHOW(uint64_t, hdrfs_check_offset(V, sizeof V));
+    SHOW(uint64_t, hdrfs_check_timed(V, sizeof V));
+    SHOW(uint64_t, hdrfs_check_time(V, sizeof V));
+    SHOW(hdrfs_checked, hdrfs_check(ALL, sizeof ALL));
+    SHOW(uint64_t, hdrfs_check_sequence(ALL, sizeof ALL));
+    SHOW(hdrfs_checked, hdrfs_check(V, 80));
+    SHOW(hdrfs_checked, hdrfs_check(ALL, sizeof ALL - 1));
+    SHOW(uint64_t, hdrfs_check_refusal(ALL, sizeof ALL - 1));
+    SHOW(uint64_t, hdrfs_check_blocks(ALL, sizeof ALL - 1));
+    SHOW(uint64_t, hdrfs_check_offset(ALL, sizeof ALL - 1));
+    SHOW(hdrfs_checked, hdrfs_check(NULL, 0));
+    SHOW(uint64_t, hdrfs_check_refusal(NULL, 0));
+    SHOW(uint64_t, hdrfs_check_sequence(NULL, 0));
+    SHOW(uint64_t, hdrfs_check_blocks(NULL, 0));
+    SHOW(uint64_t, hdrfs_check_offset(NULL, 0));
+    SHOW(uint64_t, hdrfs_check_timed(NULL, 0));
+    SHOW(uint64_t, hdrfs_check_time(NULL, 0));
+}
+
+static void look_up(void)
+{
+    SHOW(hdrfs_place, hdrfs_lookup(ALL, sizeof ALL, FILE_AT, LENGTHS, sizeof LENGTHS, 2));
+    SHOW(hdrfs_place, hdrfs_lookup(ALL, sizeof ALL, FILE_AT, LENGTHS, sizeof LENGTHS, 3));
+    SHOW(hdrfs_place, hdrfs_lookup(ALL, sizeof ALL, FILE_AT, LENGTHS, sizeof LENGTHS, 4));
+    SHOW(uint64_t, hdrfs_lookup_refusal(ALL, sizeof ALL, FILE_AT, LENGTHS, sizeof LENGTHS, 4));
+    SHOW(uint64_t, hdrfs_lookup_kind(ALL, sizeof ALL, FILE_AT, LENGTHS, sizeof LENGTHS, 4));
+    SHOW(uint64_t, hdrfs_lookup_volume(ALL, sizeof ALL, FILE_AT, LENGTHS, sizeof LENGTHS, 4));
+    SHOW(uint64_t, hdrfs_lookup_offset(ALL, sizeof ALL, FILE_AT, LENGTHS, sizeof LENGTHS, 4));
+    SHOW(hdrfs_place, hdrfs_lookup(ALL, sizeof ALL, FILE_AT, LENGTHS, sizeof LENGTHS, 14));
+    SHOW(uint64_t, hdrfs_lookup_kind(ALL, sizeof ALL, FILE_AT, LENGTHS, sizeof LENGTHS, TOP));
+    SHOW(hdrfs_place, hdrfs_lookup(ALL, sizeof ALL, FILE_AT, LENGTHS, 7, 4));
+    SHOW(hdrfs_place, hdrfs_lookup(ALL, sizeof ALL, FILE_AT, NULL, 0, 4));
+    SHOW(hdrfs_place, hdrfs_lookup(ALL, sizeof ALL, TABLE_AT, LENGTHS, sizeof LENGTHS, 4));
+    SHOW(hdrfs_place, hdrfs_lookup(V, sizeof V, 80, LENGTHS, sizeof LENGTHS, 0));
+    SHOW(uint64_t, hdrfs_lookup_refusal(V, sizeof V, 80, LENGTHS, sizeof LENGTHS, 0));
+    SHOW(uint64_t, hdrfs_lookup_volume(V, sizeof V, 80, LENGTHS, sizeof LENGTHS, 0));
+    SHOW(uint64_t, hdrfs_lookup_offset(V, sizeof V, 80, LENGTHS, sizeof LENGTHS, 0));
+    SHOW(hdrfs_place, hdrfs_lookup(V, sizeof V, TOP, LENGTHS, sizeof LENGTHS, 0));
+    SHOW(hdrfs_place, hdrfs_lookup(NULL, 0, 80, NULL, 0, 0));
+    SHOW(hdrfs_place, hdrfs_lookup(NULL, 0, 0, NULL, 0, 0));
+}
+
+/* The list is filled with 9s before a call, so that it shows which numbers were stored. */
+static void query(uint64_t from, uint64_t to, size_t room)
+{
+    uint64_t out[35];
+    for (size_t i = 0; i < 35; i++)
+        out[i] = 9;
+    printf("from %" PRIu64 " to %" PRIu64 ", room %zu, ", from, to, room);
+    SHOW(hdrfs_run_count, hdrfs_runs(ALL, sizeof ALL, FILE_AT, LENGTHS, sizeof LENGTHS, from, to, out, room));
+    show("out", out, sizeof out);
+}
+
+static void ask_for_runs(void)
+{
+    query(0, 14, 35);
+    query(0, 14, 30);
+    query(0, 14, 29);
+    query(5, TOP, 35);
+    query(1, 3, 5);
+    query(3, 3, 0);
+    query(9, 2, 35);
+    SHOW(hdrfs_run_count, hdrfs_runs(ALL, sizeof ALL, FILE_AT, LENGTHS, sizeof LENGTHS, 14, 14, NULL, 0));
+    SHOW(hdrfs_run_count, hdrfs_runs(ALL, sizeof ALL, FILE_AT, LENGTHS, sizeof LENGTHS, 0, 1, NULL, 0));
+    SHOW(hdrfs_run_count, hdrfs_runs(V, sizeof V, 80, LENGTHS, sizeof LENGTHS, 0, 1, NULL, 0));
+    SHOW(hdrfs_run_count, hdrfs_runs(NULL, 0, 80, NULL, 0, 0, 1, NULL, 0));
+}
+
+/* From the header to the end, each time with the bookmark last handed out. */
+static void walk(const uint8_t *volume, size_t volume_len)
+{
+    hdrfs_heading heading = hdrfs_header(volume, volume_len);
+    show("heading", &heading, sizeof heading);
+    hdrfs_block block = hdrfs_read(volume, volume_len, heading.next, heading.due, 0, 0);
+    show("block", &block, sizeof block);
+    while (block.refusal == 0 && block.end == 0) {
+        block = hdrfs_read(volume, volume_len, block.next, block.due, block.timed, block.last);
+        show("block", &block, sizeof block);
+    }
+}
+
+static void read_blocks(void)
+{
+    walk(V, sizeof V);
+    walk(ALL, sizeof ALL);
+    walk(NULL, 0);
+    SHOW(hdrfs_heading, hdrfs_header(V, 79));
+    SHOW(hdrfs_block, hdrfs_read(V, sizeof V, 80, 2, 0, 0));
+    SHOW(hdrfs_block, hdrfs_read(V, sizeof V, 80, 0, 0, 7));
+    SHOW(hdrfs_block, hdrfs_read(V, sizeof V, 80, 0, 1, 6));
+    SHOW(hdrfs_block, hdrfs_read(V, sizeof V, 80, 0, 2, 7));
+    SHOW(hdrfs_block, hdrfs_read(V, sizeof V, 79, 0, 0, 0));
+    SHOW(hdrfs_block, hdrfs_read(V, sizeof V, TOP, 0, 0, 0));
+    SHOW(hdrfs_block, hdrfs_read(V, sizeof V, sizeof V, 1, 0, 0));
+    SHOW(hdrfs_block, hdrfs_read(ALL, sizeof ALL, TABLE_AT, TOP, TOP, TOP));
+    SHOW(hdrfs_block, hdrfs_read(NULL, 0, 80, 0, 0, 0));
+}
+
+static void read_links(void)
+{
+    const uint8_t *links = ALL + LINKS_AT;
+    SHOW(hdrfs_link_entry, hdrfs_link(links, 44, 0));
+    SHOW(hdrfs_link_entry, hdrfs_link(links, 44, 23));
+    SHOW(hdrfs_link_entry, hdrfs_link(links, 44, 44));
+    SHOW(hdrfs_link_entry, hdrfs_link(links, 43, 23));
+    SHOW(hdrfs_link_entry, hdrfs_link(links, 22, 0));
+    SHOW(hdrfs_link_entry, hdrfs_link(links, 44, TOP));
+    SHOW(hdrfs_link_entry, hdrfs_link(NULL, 0, 0));
+}
+
+static void fetch(void)
+{
+    SHOW(hdrfs_source, hdrfs_fetch(V, sizeof V, ALL, sizeof ALL, 0, 97, 3));
+    SHOW(hdrfs_source, hdrfs_fetch(V, sizeof V, ALL, sizeof ALL, 1, 97, 3));
+    SHOW(hdrfs_source, hdrfs_fetch(ALL, sizeof ALL, V, sizeof V, 0, 97, 3));
+    SHOW(hdrfs_source, hdrfs_fetch(V, sizeof V, V, sizeof V, 0, 104, 0));
+    SHOW(hdrfs_source, hdrfs_fetch(V, sizeof V, ALL, sizeof ALL, 0, 102, 3));
+    SHOW(hdrfs_source, hdrfs_fetch(V, sizeof V, ALL, sizeof ALL, 0, TOP, TOP));
+    SHOW(hdrfs_source, hdrfs_fetch(V, sizeof V, ALL, sizeof ALL, 2, 0, 0));
+    SHOW(hdrfs_source, hdrfs_fetch(V, sizeof V, NULL, 0, 0, 97, 3));
+    SHOW(hdrfs_source, hdrfs_fetch(NULL, 0, NULL, 0, 0, 0, 0));
+}
+
+int main(void)
+{
+    check();
+    look_up();
+    ask_for_runs();
+    read_blocks();
+    read_links();
+    fetch();
+    return 0;
+}
