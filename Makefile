@@ -4,15 +4,33 @@ SHELL := /bin/bash
 .PHONY: demo test calls rust-tests bench check fmt
 
 SAMPLES := crates/samples/data
+HDRFS := rust/target/release/hdrfs
+DEMO := target/demo
 
+# The programs written in Rattle have no exit status, so what they wrote is looked at by others: the command's check, and cmp.
 demo:
-	rt check samples hdrfs_list
+	@rm -rf $(DEMO) && mkdir -p $(DEMO)
+	@echo "Proving what is shown here; the first time takes some minutes."
+	@rt check hdrfs_list gauge_archive > $(DEMO)/proof.log || { tail -n 40 $(DEMO)/proof.log; exit 1; }
+	@tail -n 1 $(DEMO)/proof.log
+	@cargo build --release --offline --quiet --manifest-path rust/Cargo.toml --package hdrfs-command
 	@echo
-	@echo "A volume with a block of every kind, listed:"
+	@echo "A volume with a block of every kind, and one with a damaged byte, listed:"
 	@./target/bin/hdrfs_list < $(SAMPLES)/all_kinds.vol
-	@echo
-	@echo "A volume with one damaged byte, listed:"
 	@./target/bin/hdrfs_list < $(SAMPLES)/wrong_block_sum.vol
+	@echo
+	@echo "A river gauge's archive of three volumes, written and checked:"
+	@./target/bin/gauge_archive $(DEMO)/0.vol $(DEMO)/1.vol $(DEMO)/2.vol
+	@$(HDRFS) check $(DEMO)/*.vol
+	@$(HDRFS) list $(DEMO)/2.vol
+	@echo
+	@echo "The gauge's file out of all three, and its end, with a dot for each byte of its hole:"
+	@$(HDRFS) extract $(DEMO)/*.vol --inode 7 -o $(DEMO)/gauge.csv
+	@tail -c 107 $(DEMO)/gauge.csv | tr '\0' '.' && echo
+	@test "$$(tail -c 3 $(DEMO)/gauge.csv)" = "1,5"
+	@cmp $(DEMO)/gauge.csv tests/gauge/expected.csv
+	@echo
+	@echo "It ends in 1,5 and is byte for byte the file in tests/gauge."
 
 # The proofs come first; their last line, 'N passed, 0 failed', is printed again at the end, and only if all tests passed.
 test:

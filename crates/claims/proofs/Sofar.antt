@@ -1,5 +1,5 @@
 -- What stands in a buffer below a bookmark while blocks are appended: a header and blocks, each allowed at the bookmark before it.
--- An accepted append adds one block, and it is accepted exactly if the rules allow its block there. Assumes nothing.
+-- An accepted append adds one block, and that happens exactly where the rules allow the block. Assumes nothing.
 use Prim.Native.Nat.{ℕ, _+_, _≤_}
 use mathlib.Core.Path.{_≡_, refl, sym, ap, _∙_, subst}
 use mathlib.Core.Bool.{false}

@@ -48,12 +48,12 @@ pub record IsFile (volume : List ℕ) (offset : ℕ) : Type 0 where
       → part (restAt volume offset) (57 * index) 57 ≡ laid extentWidths (extentFields (extentOf volume offset index))
   pub rules : (index : ℕ) → index < extentsIn volume offset → ExtentRules (extentOf volume offset index)
 
--- The volume that an extent names has an entry, and P+F is at most that length.
+-- The volume that an extent names has an entry, and the extent ends, at P+F, within the length there.
 abbrev pub IsThere : (lengths : List ℕ) → Extent → Type 0
 IsThere lengths e = (e .volume < entryCount lengths) × (e .start .0 + footprint e ≤ lengthOf lengths (e .volume))
 
 -- What a lookup asks for. A length table of whole entries, at most 4,096; a volume within the limit, and the inode block of a
--- regular file in it; and each extent with L above 0 names an entry, with P+F at most that length. 18 asks for nothing more: where S
+-- regular file in it; and each extent that keeps something names an entry and ends, at P+F, within its length. 18 asks for nothing more: where S
 -- is 0, so is L.
 pub record AllIsThere (volume : List ℕ) (offset : ℕ) (lengths : List ℕ) : Type 0 where
   pub whole-entries : length lengths % 8 ≡ 0
@@ -74,7 +74,7 @@ pub data IsPlace (e : Extent) (position : ℕ) : (place : ℕ) → Type 0 where
   in-each-copy : e .multiplicity ≡ 82 → 0 < e .size
       → IsPlace e position (e .start .0 + (e .pre + (position - e .logical .0)) % e .size)
 
--- The lengths supplied are the volumes' true lengths: entry i is the length of volume i.
+-- The lengths lent are right: entry i is how long volume i is.
 abbrev pub TrueLengths : (lengths : List ℕ) (volumes : ℕ → List ℕ) → Type 0
 TrueLengths lengths volumes = (i : ℕ) → i < entryCount lengths → lengthOf lengths i ≡ length (volumes i)
 

@@ -34,5 +34,5 @@ pub record HeaderRules (header : Header) : Type 0 where
   pub id-bytes : Bytes (header .id)
   pub hash-length : length (header .previous) ≡ 32
   pub hash-bytes : Bytes (header .previous)
-  -- in volume 0 the previous hash is 32 zero bytes
+  -- volume 0 comes after no other, and its hash is all zeros
   pub first : header .sequence ≡ 0 → header .previous ≡ noHash

@@ -1,4 +1,4 @@
--- A reading of a volume: a header and a list of blocks that keep the rules, whose images laid end to end are its bytes.
+-- A reading of a volume: a header and a list of blocks. They keep the rules, and one image after the other they make up its bytes.
 use Prim.Native.Nat.{ℕ, zero, suc, _<_}
 use mathlib.Core.Path.{_≡_}
 use mathlib.Core.Option.{Option, none, some}
@@ -35,7 +35,7 @@ timeOf (Data time payload) = some time
 timeOf (Rename time old new) = some time
 timeOf (Table links) = none
 
--- the time rule: a time is greater than the last time before it, if there is one
+-- the time rule: where there is a last time, the next one is greater
 abbrev pub TimeFollows : (last time : Option ℕ) → Type 0
 TimeFollows none time = Unit {0}
 TimeFollows (some last) none = Unit {0}

@@ -50,7 +50,7 @@ headerOrder volume =
 unfoldable pub headerFault : (volume : List ℕ) → ℕ
 headerFault volume = firstFault (headerOrder volume)
 
--- after a header: the bookmark at 80 with no last time, and a table due exactly when the sequence number is above 0
+-- the bookmark after a header: offset 80, no last time yet, and in every volume but volume 0 a table is due
 abbrev pub firstMark : (sequence : ℕ) → Bookmark
 firstMark sequence = record { offset = 80; due = ltb 0 sequence; last = Never }
 

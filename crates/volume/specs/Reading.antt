@@ -16,7 +16,7 @@ use Rattle.volume.specs.declared.Bookmark.{Bookmark}
 use Rattle.volume.specs.declared.ReadAnswer.{ReadAnswer}
 use Rattle.volume.specs.declared.ReadAnswer.the-variants.{Found as Block, End, Refused}
 
--- "end": where 1 and 8 (below 80) don't apply, the offset is the volume's length and no table is due
+-- "end": the bookmark stands at the volume's length with no table due, and neither 1 nor 8 (below 80) is to be given
 unfoldable pub isEnd : (volume : List ℕ) → Bookmark → Bool
 isEnd volume mark =
     leb (length volume) volumeLimit && (leb 80 (mark .offset) && (eqb (mark .offset) (length volume) && not (mark .due)))

@@ -60,7 +60,7 @@ impl Block<'_> {
     }
 }
 
-/// What a block says. Names, paths and link targets are well-formed UTF-8: the library has checked
+/// What a block says. All that is text in it is UTF-8: the library has checked
 /// that.
 ///
 /// ```
