@@ -36,7 +36,7 @@ demo:
 test:
 	@log=$$(mktemp); trap 'rm -f "$$log"' EXIT; \
 	rt ci 2>&1 | tee "$$log"; \
-	$(MAKE) --no-print-directory calls rust-tests; \
+	$(MAKE) --no-print-directory calls rust-tests demo; \
 	tail -n 1 "$$log"
 
 # The exported calls, made from C through include/hdrfs.h and compared with what they must answer.
