@@ -1,9 +1,9 @@
 /* Calls of the proved HDRFS library for programs in C, Rust and other languages.
  *
  * A slice is a pointer and a length; the pointer may be null where the length is 0. Every call takes any bytes and any
- * numbers, ends, and writes nothing but the list lent to hdrfs_runs. A refusal number of 0 means that nothing is refused;
- * docs/REFUSALS.md says what the others mean. Beside a refusal every other value is 0, except the offset and the number of
- * blocks that the check of a whole volume hands out.
+ * numbers, ends, and writes nothing but the list lent to hdrfs_runs and the buffer lent to a writing call. A refusal number
+ * of 0 means that nothing is refused; docs/REFUSALS.md says what the others mean. Beside a refusal every other value is 0,
+ * except the offset and the number of blocks that the check of a whole volume hands out.
  *
  * `lengths` has the lengths of the volumes, 8 bytes for each, lowest byte first; entry i is that of sequence number i.
  */
@@ -140,6 +140,46 @@ typedef struct {
 
 hdrfs_source hdrfs_fetch(const uint8_t *first, size_t first_len, const uint8_t *second, size_t second_len,
                          uint64_t number, uint64_t offset, uint64_t len);
+
+/* ---- Writing: a header at the beginning of a buffer, and then block by block, each time with the bookmark last handed out.
+ * `buf` must not overlap the other slices. Bytes that a call does not write keep their values, and so do all on refusal. */
+
+/* The bookmark after what was written: its offset, whether a table is due, its last time if `timed` is 1. */
+typedef struct {
+    uint64_t refusal; /* 17: the buffer has too little room */
+    uint64_t next;
+    uint64_t due;
+    uint64_t timed;
+    uint64_t last;
+} hdrfs_written;
+
+/* A header has 80 bytes. `id` has 16 and `previous`, the hash of the previous volume, 32. */
+hdrfs_written hdrfs_write_header(uint8_t *buf, size_t buf_len, const uint8_t *id, size_t id_len, uint64_t sequence,
+                                 const uint8_t *previous, size_t previous_len);
+
+/* `rest`: a symbolic link's target, a regular file's extents; nothing for other kinds of files. */
+hdrfs_written hdrfs_append_inode(uint8_t *buf, size_t buf_len, uint64_t offset, uint64_t due, uint64_t timed, uint64_t last,
+                                 uint64_t inode, uint64_t time, uint16_t mode, uint16_t uid, uint16_t gid,
+                                 uint64_t atime, uint64_t mtime, uint64_t ctime, uint64_t btime, uint64_t size,
+                                 const uint8_t *rest, size_t rest_len);
+hdrfs_written hdrfs_append_link(uint8_t *buf, size_t buf_len, uint64_t offset, uint64_t due, uint64_t timed, uint64_t last,
+                                uint64_t time, uint64_t child, uint64_t parent, const uint8_t *name, size_t name_len);
+hdrfs_written hdrfs_append_unlink(uint8_t *buf, size_t buf_len, uint64_t offset, uint64_t due, uint64_t timed, uint64_t last,
+                                  uint64_t time, uint64_t child, uint64_t parent, const uint8_t *name, size_t name_len);
+hdrfs_written hdrfs_append_xattr(uint8_t *buf, size_t buf_len, uint64_t offset, uint64_t due, uint64_t timed, uint64_t last,
+                                 uint64_t time, uint64_t inode, const uint8_t *name, size_t name_len,
+                                 const uint8_t *value, size_t value_len);
+hdrfs_written hdrfs_append_removed_xattr(uint8_t *buf, size_t buf_len, uint64_t offset, uint64_t due, uint64_t timed,
+                                         uint64_t last, uint64_t time, uint64_t inode, const uint8_t *name, size_t name_len);
+hdrfs_written hdrfs_append_data(uint8_t *buf, size_t buf_len, uint64_t offset, uint64_t due, uint64_t timed, uint64_t last,
+                                uint64_t time, const uint8_t *payload, size_t payload_len);
+/* `old_path` and `new_path` are the path before and the path after. */
+hdrfs_written hdrfs_append_rename(uint8_t *buf, size_t buf_len, uint64_t offset, uint64_t due, uint64_t timed, uint64_t last,
+                                  uint64_t time, const uint8_t *old_path, size_t old_path_len,
+                                  const uint8_t *new_path, size_t new_path_len);
+/* `links`: for each link 8 bytes of child, 8 of parent, 2 of the name's length, lowest byte first, and the name. */
+hdrfs_written hdrfs_append_table(uint8_t *buf, size_t buf_len, uint64_t offset, uint64_t due, uint64_t timed, uint64_t last,
+                                 uint64_t count, const uint8_t *links, size_t links_len);
 
 #ifdef __cplusplus
 }

@@ -1,5 +1,6 @@
 /* Calls every function of hdrfs.h on two sound volumes, on no bytes at all, and on numbers from the edges, and prints the
- * numbers that come back, a line for each call, in the order of the struct. calls.expected has what it must print.
+ * numbers that come back, a line for each call, in the order of the struct; and writes the second volume anew. calls.expected
+ * has what it must print.
  *
  * The two volumes are the samples v.vol and all_kinds.vol.
  */
@@ -7,6 +8,7 @@
 
 #include <inttypes.h>
 #include <stdio.h>
+#include <string.h>
 
 /* ---- The layout of the structs: as many numbers of 8 bytes as there are fields, one after the other. */
 
@@ -76,6 +78,13 @@ HAS_FIELDS(hdrfs_link_entry, 6);
 IS_NUMBER(hdrfs_source, refusal, 0);
 IS_NUMBER(hdrfs_source, which, 1);
 HAS_FIELDS(hdrfs_source, 2);
+
+IS_NUMBER(hdrfs_written, refusal, 0);
+IS_NUMBER(hdrfs_written, next, 1);
+IS_NUMBER(hdrfs_written, due, 2);
+IS_NUMBER(hdrfs_written, timed, 3);
+IS_NUMBER(hdrfs_written, last, 4);
+HAS_FIELDS(hdrfs_written, 5);
 
 /* A slice is a pointer and a length that fit the registers of a call. */
 _Static_assert(sizeof(size_t) == 8 && sizeof(void *) == 8, "a length or an address has not 8 bytes");
@@ -295,6 +304,75 @@ static void fetch(void)
     SHOW(hdrfs_source, hdrfs_fetch(NULL, 0, NULL, 0, 0, 0, 0));
 }
 
+/* A buffer with room for one byte more than the second volume, and the bookmark in it. */
+static uint8_t buf[sizeof ALL + 1];
+static hdrfs_written mark;
+
+/* A call that writes at the bookmark: it is printed with what it answers, which is the bookmark from then on. */
+#define WRITE(call)                                                                                         \
+    do {                                                                                                    \
+        mark = call;                                                                                        \
+        show(#call, &mark, sizeof mark);                                                                    \
+    } while (0)
+#define AT_MARK buf, sizeof buf, mark.next, mark.due, mark.timed, mark.last
+
+/* A text without its last byte, which is 0, as a slice. */
+#define TEXT(text) (const uint8_t *)(text), sizeof(text) - 1
+
+/* The second volume anew, block by block: the same bytes, and none behind them. */
+static void write_all(void)
+{
+    memset(buf, 9, sizeof buf);
+    WRITE(hdrfs_write_header(buf, sizeof buf, ALL + 18, 16, 1, ALL + 44, 32));
+    WRITE(hdrfs_append_table(AT_MARK, 2, ALL + LINKS_AT, 44));
+    WRITE(hdrfs_append_inode(AT_MARK, 7, 1, 33188, 1, 2, 3, 4, 5, 6, 14, ALL + 208, 114));
+    WRITE(hdrfs_append_inode(AT_MARK, 7, 2, 41471, 1, 2, 3, 4, 5, 6, 75, TEXT("gauge")));
+    WRITE(hdrfs_append_inode(AT_MARK, 7, 3, 16877, 1, 2, 3, 4, 5, 6, 70, NULL, 0));
+    WRITE(hdrfs_append_link(AT_MARK, 4, 8, 1, TEXT("gauge")));
+    WRITE(hdrfs_append_unlink(AT_MARK, 5, 8, 1, TEXT("log")));
+    WRITE(hdrfs_append_xattr(AT_MARK, 6, 7, TEXT("unit"), TEXT("m\xff")));
+    WRITE(hdrfs_append_removed_xattr(AT_MARK, 7, 7, TEXT("unit")));
+    WRITE(hdrfs_append_data(AT_MARK, 8, ALL + 624, 3));
+    WRITE(hdrfs_append_rename(AT_MARK, 9, ALL + 644, 5, ALL + 649, 6));
+    printf("same bytes: %d\n", memcmp(buf, ALL, sizeof ALL) == 0 && buf[sizeof ALL] == 9);
+}
+
+/* Each is refused, and the buffer keeps all of its bytes. */
+static void write_refused(void)
+{
+    uint8_t before[sizeof buf];
+    memcpy(before, buf, sizeof buf);
+    SHOW(hdrfs_written, hdrfs_write_header(buf, sizeof buf, ALL + 18, 15, 1, ALL + 44, 32));
+    SHOW(hdrfs_written, hdrfs_write_header(buf, sizeof buf, ALL + 18, 16, 1, NULL, 0));
+    SHOW(hdrfs_written, hdrfs_write_header(buf, sizeof buf, ALL + 18, 16, 0, ALL + 44, 32));
+    SHOW(hdrfs_written, hdrfs_write_header(buf, 79, ALL + 18, 16, 1, ALL + 44, 32));
+    SHOW(hdrfs_written, hdrfs_write_header(NULL, 0, NULL, 0, 0, NULL, 0));
+    SHOW(hdrfs_written, hdrfs_append_inode(buf, sizeof buf, 80, 0, 0, 0, TOP, TOP, 16877, 65535, 65535, 0, 0, 0, 0, 69, NULL, 0));
+    SHOW(hdrfs_written, hdrfs_append_inode(buf, sizeof buf, 80, 0, 0, 0, 7, 1, 65535, 0, 0, 0, 0, 0, 0, 0, TEXT("gauge")));
+    SHOW(hdrfs_written, hdrfs_append_link(buf, sizeof buf, 80, 1, 0, 0, 4, 8, 1, TEXT("gauge")));
+    SHOW(hdrfs_written, hdrfs_append_unlink(buf, sizeof buf, 80, 0, 0, 0, 4, 8, 1, TEXT("\xff")));
+    SHOW(hdrfs_written, hdrfs_append_xattr(buf, sizeof buf, 80, 0, 0, 0, 6, 7, TEXT("\xff"), NULL, 0));
+    SHOW(hdrfs_written, hdrfs_append_removed_xattr(buf, sizeof buf, 80, 0, 0, 0, 6, 7, ALL, 256));
+    SHOW(hdrfs_written, hdrfs_append_data(buf, sizeof buf, 79, 0, 0, 0, 8, NULL, 0));
+    SHOW(hdrfs_written, hdrfs_append_data(buf, sizeof buf, 80, 0, 2, 8, 8, NULL, 0));
+    SHOW(hdrfs_written, hdrfs_append_data(buf, sizeof buf, 640, 0, 0, 8, 8, NULL, 0));
+    SHOW(hdrfs_written, hdrfs_append_data(buf, sizeof buf, TOP, 0, 0, 0, 8, NULL, 0));
+    SHOW(hdrfs_written, hdrfs_append_data(NULL, 0, 80, 0, 0, 0, 8, NULL, 0));
+    SHOW(hdrfs_written, hdrfs_append_rename(buf, sizeof buf, 80, 0, 0, 0, 9, TEXT("old"), TEXT("\xff")));
+    SHOW(hdrfs_written, hdrfs_append_table(buf, sizeof buf, 80, 0, 0, 0, 2, ALL + LINKS_AT, 44));
+    SHOW(hdrfs_written, hdrfs_append_table(buf, sizeof buf, 80, TOP, 0, 0, 1, ALL + LINKS_AT, 44));
+    SHOW(hdrfs_written, hdrfs_append_table(buf, sizeof buf, 80, 1, 0, 0, TOP, NULL, 0));
+    printf("same bytes: %d\n", memcmp(buf, before, sizeof buf) == 0);
+}
+
+/* The last times 0 and 2^64 - 1, and a buffer that is filled to its end. */
+static void write_edges(void)
+{
+    SHOW(hdrfs_written, hdrfs_append_table(buf, sizeof buf, 80, TOP, TOP, TOP, 0, NULL, 0));
+    SHOW(hdrfs_written, hdrfs_append_data(buf, sizeof buf, 80, 0, 0, TOP, 0, NULL, 0));
+    SHOW(hdrfs_written, hdrfs_append_data(buf, sizeof buf, sizeof buf - 21, 0, 1, TOP - 1, TOP, NULL, 0));
+}
+
 int main(void)
 {
     check();
@@ -303,5 +381,8 @@ int main(void)
     read_blocks();
     read_links();
     fetch();
+    write_all();
+    write_refused();
+    write_edges();
     return 0;
 }

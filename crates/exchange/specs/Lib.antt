@@ -4,3 +4,4 @@ pub mod Blocks
 pub mod Walking
 pub mod Places
 pub mod Sources
+pub mod Writing

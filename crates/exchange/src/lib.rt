@@ -2,13 +2,15 @@
 //
 // Each turns the answer of a public call of `volume`, `links` or `lookup` into numbers, by a definition in specs/. The
 // structs below have the fields of those in the header file, in its order. `checking` has the check of a whole volume,
-// `walking` the header, the blocks and the links one by one, `places` positions and runs, `sources` the fetching of bytes.
+// `walking` the header, the blocks and the links one by one, `places` positions and runs, `sources` the fetching of bytes,
+// `writing` the writing of a header and the appends.
 mod blocks;
 pub mod checking;
 mod marks;
 pub mod places;
 pub mod sources;
 pub mod walking;
+pub mod writing;
 
 // What the check of a whole volume answers: hdrfs_checked.
 #[repr(C)]
@@ -91,4 +93,14 @@ pub struct RunCountNumbers {
 pub struct SourceNumbers {
     pub refusal: u64,
     pub which: u64,
+}
+
+// What writing a header or appending a block answers, the bookmark after it: hdrfs_written.
+#[repr(C)]
+pub struct MarkNumbers {
+    pub refusal: u64,
+    pub next: u64,
+    pub due: u64,
+    pub timed: u64,
+    pub last: u64,
 }

@@ -293,9 +293,7 @@ impl<'a> Blocks<'a> {
 
     /// The block at a bookmark, or nothing at the end.
     fn read(&self, mark: Bookmark) -> Result<Option<Block<'a>>, Refusal> {
-        let due = u64::from(mark.table_due);
-        let timed = u64::from(mark.last_time.is_some());
-        let last = mark.last_time.unwrap_or(0);
+        let (due, timed, last) = mark.numbers();
         let block = sys::read(self.volume, mark.offset, due, timed, last);
         Refusal::unless_accepted(block.refusal, mark.offset)?;
         if block.end != 0 {

@@ -1,8 +1,9 @@
-//! Where reading stands.
+//! Where reading or writing stands.
 
-/// A place between two blocks, from which reading goes on.
+/// A place between two blocks, from which reading or writing goes on.
 ///
-/// One that is made up is served like any other; see [`Blocks::at`](crate::Blocks::at).
+/// One that is made up is served like any other; see [`Blocks::at`](crate::Blocks::at) and
+/// [`Writer::at`](crate::Writer::at).
 ///
 /// ```
 /// use hdrfs::{Bookmark, Volume};
@@ -31,5 +32,13 @@ impl Bookmark {
             table_due: due != 0,
             last_time: (timed != 0).then_some(time),
         }
+    }
+
+    /// The numbers that the library takes for it, beside the offset: whether a table is due, whether
+    /// there is a last time, and it.
+    pub(crate) fn numbers(&self) -> (u64, u64, u64) {
+        let due = u64::from(self.table_due);
+        let timed = u64::from(self.last_time.is_some());
+        (due, timed, self.last_time.unwrap_or(0))
     }
 }

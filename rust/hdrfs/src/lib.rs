@@ -1,12 +1,14 @@
-//! Reads HDRFS volumes, the format in which water-level networks keep their yearly archives.
+//! Reads and writes HDRFS volumes, the format in which water-level networks keep their yearly
+//! archives.
 //!
-//! All that is decided about bytes is decided in a proved library, which this crate links. Nothing
-//! is copied: names, payloads and stored bytes are parts of the volumes that the caller lends.
+//! All that is decided about bytes is decided in a proved library, which this crate links. Reading
+//! copies nothing: names, payloads and stored bytes are parts of the volumes that the caller lends.
 //!
 //! - [`Volume::check`] checks a whole volume, [`Volume::blocks`] walks its blocks; a [`LinkTable`]
 //!   is walked link by link.
 //! - [`File`] says where the bytes of a regular file are stored: at a position, or in runs.
 //! - [`fetch`] hands out stored bytes.
+//! - [`Writer`] writes a volume into a lent buffer, block by block.
 //!
 //! A call that cannot do what it is asked answers a [`Refusal`], with a number, a place and plain
 //! words.
@@ -50,6 +52,7 @@ mod runs;
 pub mod sys;
 mod volume;
 mod walk;
+mod writer;
 
 pub use blocks::{Block, Blocks, Content, Inode};
 pub use bookmark::Bookmark;
@@ -60,6 +63,7 @@ pub use links::{Link, LinkTable, Links};
 pub use refusal::Refusal;
 pub use runs::{Run, Runs};
 pub use volume::{Checked, Heading, Volume, MAX_VOLUME_LEN};
+pub use writer::Writer;
 
 /// The example of the repository's README, compiled with the documentation's.
 #[cfg(doctest)]

@@ -5,8 +5,13 @@
 //! are safe for any bytes and any numbers.
 
 mod answers;
+mod writing;
 
-pub use answers::{Block, Checked, Heading, LinkEntry, Place, RunCount, Source};
+pub use answers::{Block, Checked, Heading, LinkEntry, Place, RunCount, Source, Written};
+pub use writing::{
+    append_data, append_inode, append_link, append_removed_xattr, append_rename, append_table,
+    append_unlink, append_xattr, write_header,
+};
 
 // Offsets are 64-bit numbers on the other side, and index slices here.
 const _: () = assert!(usize::BITS == 64, "the archive is made for 64-bit machines");
@@ -34,7 +39,7 @@ pub const PAST_END: u64 = 2;
 
 /// The declarations of the header file, in its order.
 mod raw {
-    use super::{Block, Checked, Heading, LinkEntry, Place, RunCount, Source};
+    use super::{Block, Checked, Heading, LinkEntry, Place, RunCount, Source, Written};
 
     type Bytes = *const u8;
 
@@ -116,12 +121,128 @@ mod raw {
             offset: u64,
             len: u64,
         ) -> Source;
+        pub fn hdrfs_write_header(
+            buf: *mut u8,
+            buf_len: usize,
+            id: Bytes,
+            id_len: usize,
+            sequence: u64,
+            previous: Bytes,
+            previous_len: usize,
+        ) -> Written;
+        pub fn hdrfs_append_inode(
+            buf: *mut u8,
+            buf_len: usize,
+            offset: u64,
+            due: u64,
+            timed: u64,
+            last: u64,
+            inode: u64,
+            time: u64,
+            mode: u16,
+            uid: u16,
+            gid: u16,
+            atime: u64,
+            mtime: u64,
+            ctime: u64,
+            btime: u64,
+            size: u64,
+            rest: Bytes,
+            rest_len: usize,
+        ) -> Written;
+        pub fn hdrfs_append_link(
+            buf: *mut u8,
+            buf_len: usize,
+            offset: u64,
+            due: u64,
+            timed: u64,
+            last: u64,
+            time: u64,
+            child: u64,
+            parent: u64,
+            name: Bytes,
+            name_len: usize,
+        ) -> Written;
+        pub fn hdrfs_append_unlink(
+            buf: *mut u8,
+            buf_len: usize,
+            offset: u64,
+            due: u64,
+            timed: u64,
+            last: u64,
+            time: u64,
+            child: u64,
+            parent: u64,
+            name: Bytes,
+            name_len: usize,
+        ) -> Written;
+        pub fn hdrfs_append_xattr(
+            buf: *mut u8,
+            buf_len: usize,
+            offset: u64,
+            due: u64,
+            timed: u64,
+            last: u64,
+            time: u64,
+            inode: u64,
+            name: Bytes,
+            name_len: usize,
+            value: Bytes,
+            value_len: usize,
+        ) -> Written;
+        pub fn hdrfs_append_removed_xattr(
+            buf: *mut u8,
+            buf_len: usize,
+            offset: u64,
+            due: u64,
+            timed: u64,
+            last: u64,
+            time: u64,
+            inode: u64,
+            name: Bytes,
+            name_len: usize,
+        ) -> Written;
+        pub fn hdrfs_append_data(
+            buf: *mut u8,
+            buf_len: usize,
+            offset: u64,
+            due: u64,
+            timed: u64,
+            last: u64,
+            time: u64,
+            payload: Bytes,
+            payload_len: usize,
+        ) -> Written;
+        pub fn hdrfs_append_rename(
+            buf: *mut u8,
+            buf_len: usize,
+            offset: u64,
+            due: u64,
+            timed: u64,
+            last: u64,
+            time: u64,
+            old_path: Bytes,
+            old_path_len: usize,
+            new_path: Bytes,
+            new_path_len: usize,
+        ) -> Written;
+        pub fn hdrfs_append_table(
+            buf: *mut u8,
+            buf_len: usize,
+            offset: u64,
+            due: u64,
+            timed: u64,
+            last: u64,
+            count: u64,
+            links: Bytes,
+            links_len: usize,
+        ) -> Written;
     }
 }
 
 // What makes every call below sound: a slice lends its pointer and length for the time of the call,
 // the library reads within them for any bytes and any numbers, keeps no pointer, and writes only to
-// the list lent to `hdrfs_runs`, within its length.
+// the list lent to `hdrfs_runs` and the buffer lent to a writing call, within their lengths.
 
 /// The functions on a whole volume that answer a struct or a number.
 macro_rules! on_a_volume {

@@ -36,7 +36,9 @@ fn rust_name(name: &str) -> String {
 fn rust_type(c_type: &str) -> String {
     match c_type {
         "const uint8_t *" => "Bytes".to_string(),
+        "uint8_t *" => "*mut u8".to_string(),
         "uint64_t *" => "*mut u64".to_string(),
+        "uint16_t" => "u16".to_string(),
         "uint64_t" => "u64".to_string(),
         "size_t" => "usize".to_string(),
         name => rust_name(name),
@@ -119,13 +121,13 @@ fn functions_of_the_crate() -> Declared {
 
 #[test]
 fn structs_are_the_same() {
-    assert_eq!(structs_of_the_header().len(), 7);
+    assert_eq!(structs_of_the_header().len(), 8);
     assert_eq!(structs_of_the_header(), structs_of_the_crate());
 }
 
 #[test]
 fn functions_are_the_same() {
-    assert_eq!(functions_of_the_header().len(), 17);
+    assert_eq!(functions_of_the_header().len(), 26);
     assert_eq!(functions_of_the_header(), functions_of_the_crate());
 }
 

@@ -174,3 +174,24 @@ pub struct Source {
     /// 0: the first volume has them; 1: the second.
     pub which: u64,
 }
+
+/// The bookmark after what was written.
+///
+/// ```
+/// let no_room = hdrfs::sys::write_header(&mut [], &[0; 16], 0, &[0; 32]);
+/// assert_eq!(no_room, hdrfs::sys::Written { refusal: 17, ..Default::default() });
+/// ```
+#[repr(C)]
+#[derive(Clone, Copy, Debug, Default, PartialEq, Eq)]
+pub struct Written {
+    /// 0: not refused; 17: the buffer has too little room.
+    pub refusal: u64,
+    /// The offset of the bookmark.
+    pub next: u64,
+    /// 1: a link table is due there.
+    pub due: u64,
+    /// 1: `last` is the last time of that bookmark.
+    pub timed: u64,
+    /// See `timed`.
+    pub last: u64,
+}

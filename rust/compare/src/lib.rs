@@ -1,0 +1,35 @@
+//! Compares the proved library with the independent implementation, value by value.
+//!
+//! Each function asks both the same question. It answers what both gave, often the refusal number
+//! alone (0 for none), or the [`Difference`] between them. [`case::compare`] asks all questions of one case.
+//!
+//! The tests take cases from seeds. `HDRFS_SEEDS=N` sets how many seeds there are, and
+//! `HDRFS_FIRST=K` the first of them, so that a long run need not repeat an earlier one:
+//!
+//! ```text
+//! HDRFS_SEEDS=1000000 HDRFS_FIRST=10000 cargo test --release -p compare
+//! ```
+//!
+//! The calls of `hdrfs` that give Rust types are compared for one seed in twenty.
+//!
+//! A case that differs is printed with its seed and its bytes; `HDRFS_SEEDS=1 HDRFS_FIRST=<seed>`
+//! compares it alone. The tests also fail if a refusal number that can occur was not compared, but
+//! only where there are at least as many seeds as without `HDRFS_SEEDS`.
+#![forbid(unsafe_code)]
+
+pub mod answers;
+pub mod blocks;
+pub mod case;
+mod difference;
+pub mod fetching;
+pub mod files;
+pub mod items;
+mod lent;
+pub mod links;
+pub mod seeds;
+pub mod small;
+pub mod steps;
+pub mod tally;
+pub mod volume;
+
+pub use difference::{Answer, Difference};

@@ -1,0 +1,134 @@
+//! Blocks and links as the iterators give them.
+
+use hdrfs::{Content, Inode, LinkTable, Refusal, Volume};
+use independent::links::{Link, Links};
+use independent::{Block, Body, Bookmark, Part, Reading, Stat};
+
+use crate::difference::{same_list, Difference};
+use crate::volume::bookmark;
+
+/// A block and the next bookmark, or a refusal.
+type Step<'a> = Result<(Block<'a>, Bookmark), Refusal>;
+
+/// All items of [`Volume::blocks`].
+pub fn blocks(volume: &[u8]) -> Result<(), Difference> {
+    let proved: Vec<Step<'_>> = Volume::blocks(volume)
+        .map(|item| item.map(|block| step(volume, &block)))
+        .collect();
+    same_list(&proved, &expected(volume), || "Volume::blocks".into())?;
+    let found = Volume::blocks(volume).flatten();
+    for block in found {
+        if let Content::LinkTable(table) = block.content {
+            links(&table)?;
+        }
+    }
+    Ok(())
+}
+
+/// The same by the independent implementation.
+fn expected(volume: &[u8]) -> Vec<Step<'_>> {
+    let refused = |number, offset| Err(Refusal { number, offset });
+    let mut mark = match independent::read_header(volume) {
+        Ok(header) => header.next,
+        Err(number) => return vec![refused(number, 0)],
+    };
+    let mut steps = Vec::new();
+    loop {
+        match independent::read(volume, mark) {
+            Ok(Reading::End) => return steps,
+            Ok(Reading::Block(block, next)) => {
+                steps.push(Ok((block, next)));
+                mark = next;
+            }
+            Err(number) => {
+                steps.push(refused(number, mark.offset));
+                return steps;
+            }
+        }
+    }
+}
+
+/// A block of the proved library in the types of the other.
+fn step<'a>(volume: &'a [u8], block: &hdrfs::Block<'a>) -> (Block<'a>, Bookmark) {
+    let time = block.time;
+    let found = Block {
+        id: block.id as u8,
+        offset: block.offset,
+        length: block.len(),
+        time,
+        body: body(volume, block.content, time.unwrap_or(0)),
+    };
+    (found, bookmark(block.next))
+}
+
+fn body<'a>(volume: &'a [u8], content: Content<'a>, time: u64) -> Body<'a> {
+    let part = |bytes: &'a [u8]| Part {
+        start: (bytes.as_ptr() as usize - volume.as_ptr() as usize) as u64,
+        bytes,
+    };
+    match content {
+        Content::Inode(inode) => Body::Inode {
+            stat: stat(&inode, time),
+            variable: part(inode.rest),
+        },
+        Content::Link(link) => Body::Link {
+            child: link.child,
+            parent: link.parent,
+            name: part(link.name),
+        },
+        Content::Unlink(link) => Body::Unlink {
+            child: link.child,
+            parent: link.parent,
+            name: part(link.name),
+        },
+        Content::Xattr { inode, name, value } => Body::Xattr {
+            inode,
+            name: part(name),
+            value: part(value),
+        },
+        Content::RemovedXattr { inode, name } => Body::RemovedXattr {
+            inode,
+            name: part(name),
+        },
+        Content::Data { payload } => Body::Data {
+            payload: part(payload),
+        },
+        Content::Rename { old, new } => Body::Rename {
+            old: part(old),
+            new: part(new),
+        },
+        Content::LinkTable(table) => Body::Table {
+            count: table.len() as u64,
+            links: part(table.bytes()),
+        },
+    }
+}
+
+fn stat(inode: &Inode<'_>, time: u64) -> Stat {
+    Stat {
+        inode: inode.number,
+        time,
+        mode: inode.mode,
+        uid: inode.uid,
+        gid: inode.gid,
+        atime: inode.atime,
+        mtime: inode.mtime,
+        ctime: inode.ctime,
+        btime: inode.btime,
+        size: inode.size,
+    }
+}
+
+/// All links of an accepted table.
+fn links(table: &LinkTable<'_>) -> Result<(), Difference> {
+    let proved: Vec<Link<'_>> = table
+        .iter()
+        .map(|link| Link {
+            child: link.child,
+            parent: link.parent,
+            name: link.name,
+        })
+        .collect();
+    let expected: Vec<Link<'_>> = Links::new(table.bytes()).collect();
+    same_list(&proved, &expected, || "LinkTable::iter".into())
+}
