@@ -6,6 +6,7 @@
 //! eight bytes at a time ("slicing").
 #![deny(unsafe_code)]
 
+mod appends;
 mod checks;
 mod clock;
 mod files;
@@ -35,6 +36,6 @@ fn main() -> ExitCode {
     checks::run(rounds);
     files::run(rounds);
     sums::run(rounds);
-    println!("Appending is not exported to Rust, and is not timed here.");
+    appends::run(rounds);
     ExitCode::SUCCESS
 }

@@ -47,3 +47,23 @@ pub fn row(name: &str, unit: Unit, times: [Duration; 3]) {
         proved / slicing
     );
 }
+
+/// The heading of a table with one ratio.
+pub fn pair_heading(title: &str, unit: Unit) {
+    let unit = unit.name();
+    println!(
+        "{title:<44}{:>10}{:>15}{:>9}",
+        format!("proved {unit}"),
+        format!("independent {unit}"),
+        "ratio"
+    );
+}
+
+/// One row of such a table: proved, independent.
+pub fn pair(name: &str, unit: Unit, times: [Duration; 2]) {
+    let [proved, independent] = times.map(|time| unit.of(time));
+    println!(
+        "{name:<44}{proved:>10.3}{independent:>15.3}{:>9.2}",
+        proved / independent
+    );
+}
