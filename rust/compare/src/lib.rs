@@ -26,10 +26,12 @@ pub mod files;
 pub mod items;
 mod lent;
 pub mod links;
+pub mod requests;
 pub mod seeds;
 pub mod small;
 pub mod steps;
 pub mod tally;
 pub mod volume;
+pub mod writing;
 
 pub use difference::{Answer, Difference};

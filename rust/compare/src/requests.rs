@@ -1,0 +1,131 @@
+//! What an append is asked to write, at random: sound, or at fault in one way or another.
+
+use generator::image::{extent_bytes, table_link};
+use generator::rng::Rng;
+use generator::{extents, text};
+use independent::Stat;
+
+/// The arguments of one append.
+#[derive(Clone, Debug)]
+pub enum Request {
+    Inode(Stat, Vec<u8>),
+    Link(u64, [u64; 2], Vec<u8>),
+    Unlink(u64, [u64; 2], Vec<u8>),
+    Xattr(u64, u64, Vec<u8>, Vec<u8>),
+    RemovedXattr(u64, u64, Vec<u8>),
+    Data(u64, Vec<u8>),
+    Rename(u64, Vec<u8>, Vec<u8>),
+    Table(u64, Vec<u8>),
+}
+
+/// Modes of a regular file, a symbolic link, a folder, and of no known type.
+const MODES: [u16; 4] = [0x81A4, 0xA1FF, 0x41ED, 0x0000];
+
+/// A request of a random kind.
+pub fn request(rng: &mut Rng) -> Request {
+    let (time, number) = (rng.number(), rng.number());
+    match rng.below(8) {
+        0 => inode(rng, time),
+        1 => Request::Link(time, [number, rng.number()], name(rng, 65_535)),
+        2 => Request::Unlink(time, [number, rng.number()], name(rng, 65_535)),
+        3 => Request::Xattr(time, number, name(rng, 255), value(rng)),
+        4 => Request::RemovedXattr(time, number, name(rng, 255)),
+        5 => Request::Data(time, value(rng)),
+        6 => Request::Rename(time, name(rng, 65_535), name(rng, 65_535)),
+        _ => table(rng),
+    }
+}
+
+/// Mostly a short text; now and then one at fault, as long as its field allows, or longer.
+fn name(rng: &mut Rng, most: usize) -> Vec<u8> {
+    match rng.below(24) {
+        0 => text::broken(rng, 40),
+        1 => vec![b'n'; most],
+        2 => vec![b'n'; most + 1],
+        _ => text::sound(rng, 40),
+    }
+}
+
+fn value(rng: &mut Rng) -> Vec<u8> {
+    let length = match rng.below(40) {
+        0 => 65_535,
+        1 => 65_536,
+        _ => rng.index(60),
+    };
+    rng.bytes(length)
+}
+
+fn inode(rng: &mut Rng, time: u64) -> Request {
+    let mode = rng.pick(&MODES);
+    let (rest, size) = match mode {
+        0x81A4 => list(rng),
+        0xA1FF => {
+            let target = name(rng, 4_096);
+            let size = 70 + target.len() as u64;
+            (target, size)
+        }
+        _ => (Vec::new(), 70),
+    };
+    let mut stat = Stat {
+        inode: rng.number(),
+        time,
+        mode,
+        uid: rng.word() as u16,
+        gid: rng.word() as u16,
+        atime: rng.number(),
+        mtime: rng.number(),
+        ctime: rng.number(),
+        btime: rng.number(),
+        size,
+    };
+    if rng.once_in(12) {
+        stat.size = rng.number();
+    }
+    Request::Inode(stat, rest)
+}
+
+/// A regular file's extents, and its size: sound ones, or with a fault, or too many.
+fn list(rng: &mut Rng) -> (Vec<u8>, u64) {
+    let (mut list, size) = extents::sound(rng);
+    match rng.below(12) {
+        0 if !list.is_empty() => extents::break_one(rng, &mut list),
+        1 => list = extents::overlapping(rng),
+        _ => {}
+    }
+    let mut bytes = extent_bytes(&list);
+    match rng.below(24) {
+        0 => bytes.push(0),
+        1 => bytes.resize(58_369, 0),
+        _ => {}
+    }
+    (bytes, size)
+}
+
+/// Links, with their number or another, whole or cut, and now and then two that are the same.
+fn table(rng: &mut Rng) -> Request {
+    let mut names: Vec<(u64, Vec<u8>)> = Vec::new();
+    for _ in 0..rng.below(6) {
+        names.push((rng.below(3), text::sound(rng, 6)));
+    }
+    names.sort_unstable();
+    names.dedup();
+    if rng.once_in(8) && !names.is_empty() {
+        names.push(names[rng.index(names.len())].clone());
+    }
+    if rng.once_in(12) {
+        names.push((9, text::broken(rng, 12)));
+    }
+    let mut count = names.len() as u64;
+    let mut bytes: Vec<u8> = Vec::new();
+    for (parent, name) in &names {
+        bytes.extend(table_link(rng.number(), *parent, name));
+    }
+    match rng.below(16) {
+        0 => count += 1,
+        1 => count = rng.number(),
+        2 => bytes.push(0),
+        3 => drop(bytes.pop()),
+        _ => {}
+    }
+    Request::Table(count, bytes)
+}

@@ -1,0 +1,120 @@
+//! Appends and header writers: the answer, and every byte of the buffer.
+
+use generator::rng::Rng;
+use hdrfs::sys::{self, Written};
+use independent::{self as plain, Bookmark};
+
+use crate::difference::{same, same_list, Answer};
+use crate::requests::Request;
+
+/// What both answer, as the numbers of the boundary.
+fn numbers(answer: Result<Bookmark, u64>) -> Written {
+    match answer {
+        Ok(mark) => Written {
+            refusal: 0,
+            next: mark.offset,
+            due: u64::from(mark.due),
+            timed: u64::from(mark.last.is_some()),
+            last: mark.last.unwrap_or(0),
+        },
+        Err(refusal) => Written {
+            refusal,
+            ..Written::default()
+        },
+    }
+}
+
+/// Appends with both to copies of the buffer, and leaves in it what both wrote. Answers the number
+/// and the bookmark after the block, or the same bookmark where the block is refused.
+pub fn append(
+    buffer: &mut Vec<u8>,
+    mark: Bookmark,
+    request: &Request,
+) -> Result<(u64, Bookmark), crate::Difference> {
+    let mut other = buffer.clone();
+    let expected = independently(&mut other, mark, request);
+    let written = proved(buffer, mark, request);
+    let question = || format!("append of {request:?} at {mark:?}");
+    same(written, numbers(expected), question)?;
+    same_list(buffer, &other, question)?;
+    Ok((written.refusal, expected.unwrap_or(mark)))
+}
+
+/// Writes a header with both.
+pub fn header(buffer: &mut Vec<u8>, id: &[u8], sequence: u64, previous: &[u8]) -> Answer {
+    let mut other = buffer.clone();
+    let expected = plain::write_header(&mut other, id, sequence, previous);
+    let written = sys::write_header(buffer, id, sequence, previous);
+    let question = || format!("header {sequence}, {id:?}, {previous:?}");
+    same(written, numbers(expected), question)?;
+    same_list(buffer, &other, question)?;
+    Ok(written.refusal)
+}
+
+/// A bookmark that no call handed out.
+pub fn made_up(rng: &mut Rng, room: usize) -> Bookmark {
+    let offset = match rng.below(6) {
+        0 => rng.below(80),
+        1 => rng.number(),
+        2 => 16_777_216 - rng.below(200),
+        _ => 80 + rng.below(room as u64 + 1),
+    };
+    Bookmark {
+        offset,
+        due: rng.once_in(3),
+        last: (!rng.once_in(3)).then(|| rng.number()),
+    }
+}
+
+fn proved(buf: &mut [u8], mark: Bookmark, request: &Request) -> Written {
+    let (offset, due) = (mark.offset, u64::from(mark.due));
+    let (timed, last) = (u64::from(mark.last.is_some()), mark.last.unwrap_or(0));
+    match request {
+        Request::Inode(s, rest) => sys::append_inode(
+            buf, offset, due, timed, last, s.inode, s.time, s.mode, s.uid, s.gid, s.atime, s.mtime,
+            s.ctime, s.btime, s.size, rest,
+        ),
+        Request::Link(time, [child, parent], name) => {
+            sys::append_link(buf, offset, due, timed, last, *time, *child, *parent, name)
+        }
+        Request::Unlink(time, [child, parent], name) => {
+            sys::append_unlink(buf, offset, due, timed, last, *time, *child, *parent, name)
+        }
+        Request::Xattr(time, inode, name, value) => {
+            sys::append_xattr(buf, offset, due, timed, last, *time, *inode, name, value)
+        }
+        Request::RemovedXattr(time, inode, name) => {
+            sys::append_removed_xattr(buf, offset, due, timed, last, *time, *inode, name)
+        }
+        Request::Data(time, payload) => {
+            sys::append_data(buf, offset, due, timed, last, *time, payload)
+        }
+        Request::Rename(time, old, new) => {
+            sys::append_rename(buf, offset, due, timed, last, *time, old, new)
+        }
+        Request::Table(count, links) => {
+            sys::append_table(buf, offset, due, timed, last, *count, links)
+        }
+    }
+}
+
+fn independently(buf: &mut [u8], mark: Bookmark, request: &Request) -> Result<Bookmark, u64> {
+    match request {
+        Request::Inode(stat, rest) => plain::append_inode(buf, mark, stat, rest),
+        Request::Link(time, [child, parent], name) => {
+            plain::append_link(buf, mark, *time, *child, *parent, name)
+        }
+        Request::Unlink(time, [child, parent], name) => {
+            plain::append_unlink(buf, mark, *time, *child, *parent, name)
+        }
+        Request::Xattr(time, inode, name, value) => {
+            plain::append_xattr(buf, mark, *time, *inode, name, value)
+        }
+        Request::RemovedXattr(time, inode, name) => {
+            plain::append_removed_xattr(buf, mark, *time, *inode, name)
+        }
+        Request::Data(time, payload) => plain::append_data(buf, mark, *time, payload),
+        Request::Rename(time, old, new) => plain::append_rename(buf, mark, *time, old, new),
+        Request::Table(count, links) => plain::append_table(buf, mark, *count, links),
+    }
+}
