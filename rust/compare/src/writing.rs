@@ -27,11 +27,11 @@ fn numbers(answer: Result<Bookmark, u64>) -> Written {
 /// Appends with both to copies of the buffer, and leaves in it what both wrote. Answers the number
 /// and the bookmark after the block, or the same bookmark where the block is refused.
 pub fn append(
-    buffer: &mut Vec<u8>,
+    buffer: &mut [u8],
     mark: Bookmark,
     request: &Request,
 ) -> Result<(u64, Bookmark), crate::Difference> {
-    let mut other = buffer.clone();
+    let mut other = buffer.to_vec();
     let expected = independently(&mut other, mark, request);
     let written = proved(buffer, mark, request);
     let question = || format!("append of {request:?} at {mark:?}");
@@ -41,8 +41,8 @@ pub fn append(
 }
 
 /// Writes a header with both.
-pub fn header(buffer: &mut Vec<u8>, id: &[u8], sequence: u64, previous: &[u8]) -> Answer {
-    let mut other = buffer.clone();
+pub fn header(buffer: &mut [u8], id: &[u8], sequence: u64, previous: &[u8]) -> Answer {
+    let mut other = buffer.to_vec();
     let expected = plain::write_header(&mut other, id, sequence, previous);
     let written = sys::write_header(buffer, id, sequence, previous);
     let question = || format!("header {sequence}, {id:?}, {previous:?}");
