@@ -11,7 +11,7 @@ use generator::rng::Rng;
 
 /// Very many runs take long, so they are compared seldom.
 fn most_runs(seed: u64) -> u64 {
-    if seed % 100 == 0 {
+    if seed.is_multiple_of(100) {
         200_000
     } else {
         3_000
