@@ -53,8 +53,8 @@ abbrev pub IsThere : (lengths : List ℕ) → Extent → Type 0
 IsThere lengths e = (e .volume < entryCount lengths) × (e .start .0 + footprint e ≤ lengthOf lengths (e .volume))
 
 -- What a lookup asks for. A length table of whole entries, at most 4,096; a volume within the limit, and the inode block of a
--- regular file in it; and each extent that keeps something names an entry and ends, at P+F, within its length. 18 asks for nothing more: where S
--- is 0, so is L.
+-- regular file in it; and each extent that keeps something names an entry and ends, at P+F, within its length. 18 asks for
+-- nothing more: where S is 0, so is L.
 pub record AllIsThere (volume : List ℕ) (offset : ℕ) (lengths : List ℕ) : Type 0 where
   pub whole-entries : length lengths % 8 ≡ 0
   pub few-entries : entryCount lengths ≤ 4096

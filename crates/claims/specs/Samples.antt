@@ -49,8 +49,8 @@ pub record File : Type 0 where
   pub size : ℕ
   pub extents : List Extent
 
--- V has a header of volume 0 and a data block with the three bytes `1,5`, which stand from 97 on; it ends at 104. The inode block of a file comes after
--- it, at 104.
+-- V has a header of volume 0 and a data block with the three bytes `1,5`, which stand from 97 on; it ends at 104. The inode
+-- block of a file comes after it, at 104.
 abbrev pub first : Header
 first = record { id = replicate 16 0; sequence = 0; previous = noHash }
 
