@@ -3,9 +3,10 @@
 use Prim.Native.Nat.{ℕ, _+_, _%_}
 use mathlib.Core.Path.{_≡_, refl, sym, ap, ap₂, _∙_}
 use mathlib.Core.Bool.{false, not}
-use mathlib.Core.List.{List, _++_, append-assoc}
+use mathlib.Core.List.{List, [], _++_, append-assoc, append-nil}
 use native.Mathlib.Nat.{add-zero}
 use lib.ListN.{length, drop, getD, length-append}
+use lib.Seq.{take-at}
 use borrow.Author.Tests.{le-ltb}
 use Rattle.number.specs.Number.{part}
 use Rattle.number.proofs.Parts.{part-at, drop-past}
@@ -133,11 +134,12 @@ accepts (Table list) volume offset rest o f d =
     let start : ℕ = offset + before linkTable in
     let fitting = rules-fitting list (o .rules .1 .0) in
     let back = links-of-list list rest fitting in
+    let alone = rw (append-nil (linkList list)) at (links-of-list list [] fitting) in
     let texts = names-are-texts (linkList list ++ rest) (length list) .1 (rw back (rules-text list (o .rules .1 .0))) in
     let once = links-are-distinct (linkList list ++ rest) (length list) .1 (rw back (o .rules .1 .1)) in
     let few = le-ltb 4096 (length list) (o .rules .0) in
     record {
       body-length = rw (n, d) (start-of-list list rest fitting);
       tests = record { few = rw n few; texts = rw (n, d) texts; sound = refl; apart = refl; once = rw (n, d) once };
-      same = rw (add-zero start, n, d) (ap Table back);
+      same = rw (add-zero start, n, d, start-of-list list rest fitting, take-at (linkList list) rest (length (linkList list)) refl) (ap Table alone);
     }

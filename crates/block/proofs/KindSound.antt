@@ -21,7 +21,7 @@ use Rattle.format.specs.Blocks.{Block, kindOf, fields, body, FileType, regular,
 use Rattle.extent.specs.Extents.{someBroken}
 use Rattle.extent.proofs.ListRules as extents
 use Rattle.links.specs.Links.{linkStart, linksFrom}
-use Rattle.links.proofs.Lists.{length-links, list-of-links, links-fitting}
+use Rattle.links.proofs.Lists.{length-links, list-of-links, links-fitting, links-alone}
 use Rattle.links.proofs.Rules.{fitting-rules, names-are-texts, links-are-distinct}
 use Rattle.block.specs.Fields.{before, fieldAt, bodyLength, bodyEnd, typeAt, sizeAt}
 use Rattle.block.specs.Order.{overCount, tooLong, notText, targetNotText, ruleBroken, inodeBroken}
@@ -83,7 +83,7 @@ shows renameBlock volume offset b h =
 shows linkTable volume offset b h =
     let start : ℕ = offset + before linkTable in
     let count : ℕ = fieldAt linkTable 0 volume offset in
-    rw (add-zero start)
+    rw (add-zero start, links-alone (drop start volume) (bytes-drop start volume b) count (links-within volume offset h))
     (record {
       same-kind = refl;
       same-fields = ap (λ (n : ℕ). n ∷ []) (length-links (drop start volume) count);
@@ -134,7 +134,7 @@ kind-rules linkTable volume offset b h p =
     let bytes : List ℕ = drop start volume in
     let count : ℕ = fieldAt linkTable 0 volume offset in
     let fitting = links-fitting bytes (bytes-drop start volume b) count (links-within volume offset h) in
-    rw (add-zero start) (
+    rw (add-zero start, links-alone bytes (bytes-drop start volume b) count (links-within volume offset h)) (
       rw (length-links bytes count) (ltb-false _ _ (p .few)),
       (fitting-rules (linksFrom bytes 0 count) fitting (names-are-texts bytes count .0 (p .texts)), links-are-distinct bytes count .0 (p .once)),
     )

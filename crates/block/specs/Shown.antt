@@ -2,7 +2,6 @@
 use Prim.Native.Nat.{ℕ, _+_}
 use mathlib.Core.Option.{Option, none, some}
 use mathlib.Core.List.{List}
-use lib.ListN.{drop}
 use Rattle.number.specs.Number.{part}
 use Rattle.format.specs.Blocks as format
 use Rattle.format.specs.Blocks.{Kind, inodeBlock, linkBlock, unlinkBlock, xattrBlock, removedXattrBlock, dataBlock, renameBlock, linkTable}
@@ -118,7 +117,7 @@ shown volume (Xattr b) = format.Xattr (b .time) (b .number) (bytesOf volume (b .
 shown volume (RemovedXattr b) = format.RemovedXattr (b .time) (b .number) (bytesOf volume (b .name))
 shown volume (Data b) = format.Data (b .time) (bytesOf volume (b .payload))
 shown volume (Rename b) = format.Rename (b .time) (bytesOf volume (b .old)) (bytesOf volume (b .new))
-shown volume (Table b) = format.Table (linksFrom (drop (b .links .offset) volume) 0 (b .count))
+shown volume (Table b) = format.Table (linksFrom (bytesOf volume (b .links)) 0 (b .count))
 
 -- the time of a block; a table has none
 abbrev pub timeOfBlock : Block → Option ℕ

@@ -1,7 +1,7 @@
 -- Links laid out one after the other are read back, and links read are laid out as they stood. Assumes nothing.
 use Prim.Native.Nat.{ℕ, zero, suc, _+_, _-_, _≤_}
 use mathlib.Core.Path.{_≡_, refl, sym, ap, ap₂, subst, _∙_}
-use mathlib.Core.List.{List, [], _∷_, _++_, append-assoc}
+use mathlib.Core.List.{List, [], _∷_, _++_, append-assoc, append-nil}
 use native.Mathlib.Nat.{add-zero, zero-add}
 use native.Mathlib.Omega.{arith}
 use lib.ListN.{length, take, drop, length-append, length-drop}
@@ -157,3 +157,11 @@ module _ (list : List TableLink) (rest : List ℕ) (fitting : All Fitting list) 
   pub start-of-list : linkStart (linkList list ++ rest) (length list) ≡ length (linkList list)
   unfolding bytes
   start-of-list = ap (linkStart bytes) (sym (zero-add (length list))) ∙ there .1 ∙ rw (← start-zero bytes) (omega arith)
+
+-- links that lie within the bytes are the same in the bytes that they take alone
+pub links-alone : (links : List ℕ) → Bytes links → (count : ℕ) → linkStart links count ≤ length links
+    → linksFrom (take (linkStart links count) links) 0 count ≡ linksFrom links 0 count
+links-alone links b count within =
+    let list : List TableLink = linksFrom links 0 count in
+    let back : linksFrom (linkList list ++ []) 0 (length list) ≡ list = links-of-list list [] (links-fitting links b count within) in
+    rw (append-nil (linkList list), list-of-links links b count within, length-links links count) at back
