@@ -2,7 +2,7 @@
 -- keeper of a position is the only one, and the place where it stores the position lies within the volume that it names. Runs are
 -- carried over from the file's list of extents. Assumes nothing.
 use Prim.Native.Nat.{ℕ, _≤_, _<_}
-use mathlib.Core.Path.{_≡_, ap, _∙_}
+use mathlib.Core.Path.{_≡_, refl, sym, ap, _∙_}
 use mathlib.Core.Logic.{inl, inr, ⊎-elim}
 use mathlib.Core.Bool.{true, false}
 use mathlib.Core.Option.{none, some}
@@ -22,6 +22,8 @@ use Rattle.runs.proofs.Keeper.{keeper-some, one-keeper, some-keeper}
 use Rattle.runs.proofs.Labels.{label-none, label-some}
 use Rattle.lookup.specs.Lookup.{placeFor, lookupFault, positionAnswer}
 use Rattle.lookup.specs.declared.PositionAnswer.the-variants.{PastEnd}
+use Rattle.lookup.proofs.Answers.{position-refused, runs-refused, room-kept}
+use lib.ListN.{length}
 use Rattle.claims.specs.Demand2.{IsPlace, in-a-row, in-each-copy, IsHole, IsStored, LookupClaim, Demand2}
 use Rattle.claims.proofs.File.{Passed, all-passed, is-there, all-is-there, no-fault}
 use Rattle.claims.proofs.Ranges.{answer-below, range-claim}
@@ -105,4 +107,14 @@ demand-2-holds volume offset lengths b =
         no-fault volume offset lengths,
       );
       what-then-holds = claim volume offset lengths;
+      refused-otherwise =
+          λ n.
+          record {
+            positions = λ position. sym (position-refused volume offset lengths refl n position);
+            ranges =
+                λ from to out. (
+                  sym (runs-refused volume offset lengths refl n from to (length out)),
+                  sym (room-kept volume offset lengths refl n from to out),
+                );
+          };
     }

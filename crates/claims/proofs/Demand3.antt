@@ -18,7 +18,7 @@ use Rattle.request.proofs.Asked.{one-block}
 use Rattle.claims.specs.Demand3Reading.{ReaderGives}
 use Rattle.claims.specs.Demand3.{Outcome, appends, written, VolumeClaim, Start, extended, AcceptedVolume, AppendsClaim, Demand3}
 use Rattle.claims.proofs.Demand3Reading.{reading-gives, check-answers, demand-3-reading-holds}
-use Rattle.claims.proofs.Sofar.{volume-more, Sofar, sofar-keeps}
+use Rattle.claims.proofs.Sofar.{volume-more, Sofar, sofar-keeps, keeps-due}
 use Rattle.claims.proofs.Appends.{Claimed, claimed, still-read}
 use Rattle.claims.proofs.Starts.{start-stands}
 use Rattle.claims.proofs.Afresh.{fresh}
@@ -58,7 +58,14 @@ appends-claim buffer mark sofar requests b sized start =
       each-accepted-exactly-if-allowed = c .judged;
       bytes-below = bytes;
       rest-as-it-was = c .rest;
-      accepted-volume = stands-accepted (outcome .buffer) (outcome .mark) (extended sofar (c .blocks)) t;
+      due-says = (
+        sofar-keeps (outcome .buffer) (outcome .mark) (extended sofar (c .blocks)) t,
+        keeps-due (outcome .buffer) (outcome .mark) (extended sofar (c .blocks)) t,
+      );
+      accepted-volume =
+          λ k.
+          stands-accepted (outcome .buffer) (outcome .mark) (extended sofar (c .blocks)) t
+          (keeps-due (outcome .buffer) (outcome .mark) (extended sofar (c .blocks)) t k);
       earlier-blocks =
           λ at found e.
           rw bytes (still-read old (images (c .blocks)) at found (bytes-take (mark .offset) buffer b) (rw bytes at small) e);

@@ -14,15 +14,16 @@ use Rattle.volume.specs.Heading.{idOf, sequenceOf, previousOf, headerFault, fir
 use Rattle.volume.specs.Checking.{checkFrom, afterHeader, checkAnswer}
 use Rattle.volume.specs.declared.Bookmark.{Bookmark}
 use Rattle.volume.specs.declared.Accepted.{Accepted}
+use Rattle.volume.specs.declared.Refusal.{Refusal}
 use Rattle.volume.specs.declared.Header.{Header as VolumeHeader}
 use Rattle.volume.specs.declared.HeaderAnswer.{HeaderAnswer}
 use Rattle.volume.specs.declared.HeaderAnswer.the-variants as head
 use Rattle.volume.specs.declared.Verdict.the-variants as verdict
 use Rattle.volume.proofs.HeaderImage.{headerAt, HeaderStands, header-sound, length-header, HeaderShown, header-complete}
 use Rattle.volume.proofs.HeaderImage.{givenAt, HeaderAnswers, accepts, rejects, header-answers}
-use Rattle.claims.specs.Demand3Reading.{Calls, ReaderGives, IsAccepted, Demand3Reading}
+use Rattle.claims.specs.Demand3Reading.{Calls, Stops, ReaderGives, IsAccepted, Demand3Reading}
 use Rattle.claims.proofs.Walk.{afterAll, runs-volume, volume-runs}
-use Rattle.claims.proofs.Reader.{Read, calls-sound, calls-complete, check-complete, check-ends, calls-same}
+use Rattle.claims.proofs.Reader.{Read, calls-sound, calls-complete, check-complete, check-stops, check-ends, calls-same}
 
 -- an accepted header has no fault, and it is answered with what stands in it
 header-given : (volume : List ℕ) (given : VolumeHeader) → headerAnswer volume ≡ head.Accepted given
@@ -108,6 +109,19 @@ unfolding checkAnswer afterHeader
 check-answers volume reading end g =
     rw (g .header, ← zero-add (length (reading .blocks))) (check-complete (reading .header .sequence) 0 (g .blocks))
 
+-- and it refuses where the reader does
+header-refused : (volume : List ℕ) (refusal : Refusal) → headerAnswer volume ≡ head.Refused refusal
+    → checkAnswer volume ≡ verdict.Refused (record { refusal = refusal; offset = 0; blocks = 0 })
+unfolding checkAnswer afterHeader
+header-refused volume refusal e = rw e
+
+check-refused : (volume : List ℕ) (header : VolumeHeader) (blocks : List Block) (at : Bookmark) (refusal : Refusal)
+    → headerAnswer volume ≡ head.Accepted header → Stops volume (header .next) blocks at refusal
+    → checkAnswer volume ≡ verdict.Refused (record { refusal = refusal; offset = at .offset; blocks = length blocks })
+unfolding checkAnswer afterHeader
+check-refused volume header blocks at refusal e s =
+    rw (e, ← zero-add (length blocks)) (check-stops (header .sequence) 0 s)
+
 -- where the check accepts, the reader comes to "end", so there is a reading
 accepted-reading : (volume : List ℕ) → Bytes volume → IsAccepted volume → HasReading volume
 unfolding checkAnswer afterHeader checkFrom
@@ -137,4 +151,6 @@ demand-3-reading-holds volume b small =
       reader-gives-the-reading =
           λ reading. ((λ r. (_, reading-gives volume reading small r)), λ g. gives-reading volume reading (g .0) b (g .1));
       check-answers-for-the-reading = check-answers volume;
+      check-refuses-the-header = header-refused volume;
+      check-refuses-where-the-reader-does = check-refused volume;
     }

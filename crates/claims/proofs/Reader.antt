@@ -24,7 +24,8 @@ use Rattle.volume.specs.declared.Verdict.{Verdict}
 use Rattle.volume.specs.declared.Verdict.the-variants as verdict
 use Rattle.volume.proofs.Steps.{check-step}
 use Rattle.volume.proofs.OneCall.{after, HandedOut, read-sound, Hands, read-complete, AtEnd, end-sound, end-complete}
-use Rattle.claims.specs.Demand3Reading.{Calls, ended, handed}
+use Rattle.claims.specs.Demand3Reading.{Calls, ended, handed, Stops, stopped, handed-before}
+use Rattle.volume.specs.declared.Refusal.{Refusal}
 use Rattle.claims.proofs.Walk.{Runs, afterAll}
 
 -- what the calls tell of the blocks
@@ -75,6 +76,17 @@ check-complete {volume} {mark} sequence count (ended e) = check-step volume sequ
 check-complete {volume} {mark} sequence count (handed {blocks = blocks} e calls) =
     let n : suc count + length blocks ≡ count + suc (length blocks) = omega arith in
     check-step volume sequence mark count ∙ rw (e, ← n) (check-complete sequence (suc count) calls)
+
+-- where the reader refuses, the check from the same bookmark on refuses there, and has counted the blocks before
+pub check-stops : {volume : List ℕ} {mark at : Bookmark} {blocks : List Block} {refusal : Refusal} (sequence count : ℕ)
+    → Stops volume mark blocks at refusal
+    → checkFrom volume sequence mark count
+    ≡ verdict.Refused (record { refusal = refusal; offset = at .offset; blocks = count + length blocks })
+unfolding judge
+check-stops {volume} {mark} sequence count (stopped e) = check-step volume sequence mark count ∙ rw (e, add-zero count)
+check-stops {volume} {mark} sequence count (handed-before {blocks = blocks} e calls) =
+    let n : suc count + length blocks ≡ count + suc (length blocks) = omega arith in
+    check-step volume sequence mark count ∙ rw (e, ← n) (check-stops sequence (suc count) calls)
 
 -- where the check accepts, the reader comes to "end" at the check's end bookmark
 abbrev Ends : (volume : List ℕ) → Bookmark → Bookmark → Type 0

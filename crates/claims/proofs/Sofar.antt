@@ -19,7 +19,7 @@ use Rattle.volume.specs.declared.Bookmark.{Bookmark}
 use Rattle.volume.proofs.OneCall.{Allowed, after}
 use Rattle.volume.proofs.Appending.{Admitted}
 use Rattle.claims.specs.Demand3.{extended, Permits}
-use Rattle.claims.proofs.Walk.{Runs, afterAll, runs-volume, volume-runs}
+use Rattle.claims.proofs.Walk.{Runs, afterAll, runs-volume, volume-runs, runs-end}
 
 -- Blocks one after the other, and one more.
 
@@ -106,6 +106,12 @@ sofar-keeps buffer mark sofar s d =
     let due = ap (λ (m : Bookmark). m .due) (sym (s .mark-after)) ∙ d in
     let k = runs-volume (sofar .header .sequence) (sofar .blocks) (follow-runs (startOf sofar) (sofar .blocks) (s .follow) due) in
     record { header = s .header; each = k .0; table = k .1; times = k .2 }
+
+-- and the other way round
+pub keeps-due : (buffer : List ℕ) (mark : Bookmark) (sofar : Reading) → Sofar buffer mark sofar → Keeps sofar → mark .due ≡ false
+keeps-due buffer mark sofar s k =
+    ap (λ (m : Bookmark). m .due) (s .mark-after)
+    ∙ runs-end (startOf sofar) (sofar .blocks) (volume-runs (sofar .header .sequence) (sofar .blocks) (k .each, k .table, k .times))
 
 pub keeps-follow : (reading : Reading) → Keeps reading → Follow (startOf reading) (reading .blocks)
 keeps-follow reading k =

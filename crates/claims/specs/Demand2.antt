@@ -147,10 +147,20 @@ pub record LookupClaim (volume : List ℕ) (offset : ℕ) (lengths : List ℕ) :
       → positionAnswer volume offset lengths position ≡ PositionAnswer.PastEnd
   pub ranges : (from to : ℕ) → RangeClaim volume offset lengths from to
 
+-- What is claimed of a lookup that is refused: every position and every range is answered with the number of its first fault, and
+-- the lent list stays.
+pub record RefusedClaim (volume : List ℕ) (offset : ℕ) (lengths : List ℕ) : Type 0 where
+  pub positions : (position : ℕ)
+      → positionAnswer volume offset lengths position ≡ PositionAnswer.Refused (refusalOf (lookupFault volume offset lengths))
+  pub ranges : (from to : ℕ) (out : List ℕ)
+      → (runsAnswer volume offset lengths from to (length out) ≡ RunsAnswer.Refused (refusalOf (lookupFault volume offset lengths)))
+      × (runsRoom volume offset lengths from to out ≡ out)
+
 -- Demand 2 on lookup: which lookups are not refused, and all of this holds of each of them.
 pub record Demand2For (volume : List ℕ) (offset : ℕ) (lengths : List ℕ) : Type 0 where
   pub not-refused-iff-all-is-there : (lookupFault volume offset lengths ≡ 0) ↔ AllIsThere volume offset lengths
   pub what-then-holds : lookupFault volume offset lengths ≡ 0 → LookupClaim volume offset lengths
+  pub refused-otherwise : (lookupFault volume offset lengths ≡ 0 → ⊥) → RefusedClaim volume offset lengths
 
 abbrev pub Demand2 : Type 0
 Demand2 = (volume : List ℕ) (offset : ℕ) (lengths : List ℕ) → Bytes volume → Demand2For volume offset lengths

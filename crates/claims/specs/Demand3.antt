@@ -5,6 +5,7 @@
 use Prim.Native.Nat.{ℕ, _≤_}
 use mathlib.Core.Path.{_≡_}
 use mathlib.Core.Bool.{false}
+use mathlib.Core.Logic.{_↔_}
 use mathlib.Core.List.{List, [], _∷_, _++_, map}
 use lib.ListN.{length, take, drop}
 use Rattle.number.specs.Number.{Bytes}
@@ -152,8 +153,10 @@ pub record AppendsClaim (buffer : List ℕ) (mark : Bookmark) (sofar : Reading) 
   pub bytes-below : written outcome ≡ take (mark .offset) buffer ++ images blocks
   -- nothing from the last bookmark on has changed
   pub rest-as-it-was : drop (outcome .mark .offset) (outcome .buffer) ≡ drop (outcome .mark .offset) buffer
+  -- the last bookmark says that no table is due exactly if the header and blocks now are a reading, which lacks no table
+  pub due-says : (outcome .mark .due ≡ false) ↔ Keeps (extended sofar blocks)
   -- unless a table is still due, this is a volume that ends at the last bookmark
-  pub accepted-volume : outcome .mark .due ≡ false → AcceptedVolume (written outcome) (extended sofar blocks) (outcome .mark)
+  pub accepted-volume : Keeps (extended sofar blocks) → AcceptedVolume (written outcome) (extended sofar blocks) (outcome .mark)
   -- what could be read before is still read
   pub earlier-blocks :
       (at : Bookmark) (found : Found)

@@ -17,6 +17,8 @@ use Rattle.volume.specs.Reading.{readAnswer}
 use Rattle.volume.specs.Checking.{checkAnswer}
 use Rattle.volume.specs.declared.Bookmark.{Bookmark}
 use Rattle.volume.specs.declared.Found.{Found}
+use Rattle.volume.specs.declared.Refusal.{Refusal}
+use Rattle.volume.specs.declared.Header.{Header as VolumeHeader}
 use Rattle.volume.specs.declared.Accepted.{Accepted}
 use Rattle.volume.specs.declared.HeaderAnswer.the-variants as HeaderAnswer
 use Rattle.volume.specs.declared.ReadAnswer.the-variants as ReadAnswer
@@ -40,6 +42,16 @@ pub record ReaderGives (volume : List ℕ) (reading : Reading) (end : Bookmark) 
   pub previous : partAnswer volume 44 32 ≡ reading .header .previous
   pub blocks : Calls volume first (reading .blocks) end
 
+-- The reader is called in the same way until it refuses: it hands out these blocks before, and the last bookmark is the one at which it
+-- refuses.
+pub data Stops (volume : List ℕ) : Bookmark → List Block → Bookmark → Refusal → Type 0 where
+  stopped : {mark : Bookmark} {refusal : Refusal} → readAnswer volume mark ≡ ReadAnswer.Refused refusal → Stops volume mark [] mark refusal
+  handed-before :
+      {mark at : Bookmark} {found : Found} {blocks : List Block} {refusal : Refusal}
+      → readAnswer volume mark ≡ ReadAnswer.Found found
+      → Stops volume (found .next) blocks at refusal
+      → Stops volume mark (shown volume (found .block) ∷ blocks) at refusal
+
 -- The check accepts the volume.
 abbrev pub IsAccepted : (volume : List ℕ) → Type 0
 IsAccepted volume = (answer : Accepted) × (checkAnswer volume ≡ Verdict.Accepted answer)
@@ -57,6 +69,16 @@ pub record ReadingClaim (volume : List ℕ) : Type 0 where
       (reading : Reading) (end : Bookmark)
       → ReaderGives volume reading end
       → checkAnswer volume ≡ Verdict.Accepted (record { sequence = reading .header .sequence; blocks = length (reading .blocks); end = end })
+  -- where the header is refused, so is the volume, at 0; and where the reader refuses a block, at that block, after the blocks before it
+  pub check-refuses-the-header :
+      (refusal : Refusal)
+      → headerAnswer volume ≡ HeaderAnswer.Refused refusal
+      → checkAnswer volume ≡ Verdict.Refused (record { refusal = refusal; offset = 0; blocks = 0 })
+  pub check-refuses-where-the-reader-does :
+      (header : VolumeHeader) (blocks : List Block) (at : Bookmark) (refusal : Refusal)
+      → headerAnswer volume ≡ HeaderAnswer.Accepted header
+      → Stops volume (header .next) blocks at refusal
+      → checkAnswer volume ≡ Verdict.Refused (record { refusal = refusal; offset = at .offset; blocks = length blocks })
 
 -- Demand 3 on reading: all of this holds of every volume of at most 16,777,216 bytes.
 abbrev pub Demand3Reading : Type 0
