@@ -17,6 +17,7 @@ use Rattle.volume.specs.declared.Bookmark.{Bookmark}
 use Rattle.volume.proofs.HeaderImage.{length-header}
 use Rattle.volume.proofs.OneCall.{after}
 use Rattle.volume.proofs.Appending.{Admitted, admitted-appended, Written, header-written}
+use Rattle.claims.specs.Library.{ours}
 use Rattle.claims.specs.Demand3.{Outcome, appends, extended, IsNext, FreshClaim}
 use Rattle.claims.proofs.Sofar.{Follow, startOf, Sofar, keeps-follow, sofar-more}
 use Rattle.claims.proofs.Appends.{extended-none, extended-twice, drop-later}
@@ -31,7 +32,7 @@ record Wrote (buffer : List ℕ) (mark : Bookmark) (sofar : Reading) (blocks : L
 
 wrote : (blocks : List Block) (buffer : List ℕ) (mark : Bookmark) (sofar : Reading) → Sofar buffer mark sofar → Follow mark blocks
     → mark .offset + length (images blocks) ≤ volumeLimit → mark .offset + length (images blocks) ≤ length buffer
-    → Wrote buffer mark sofar blocks (appends buffer mark (map requestFor blocks))
+    → Wrote buffer mark sofar blocks (appends ours buffer mark (map requestFor blocks))
 unfolding appends images
 wrote [] buffer mark sofar s f small fits =
     record { answers = tt; stands = subst (Sofar buffer mark) (extended-none sofar) s; grows = omega arith; rest = refl }
@@ -42,11 +43,11 @@ wrote (block ∷ blocks) buffer mark sofar s f small fits =
     = record { asks = refl; allowed = f .0; base = s .base; small = omega arith; fits = omega arith } in
     let next : List ℕ = put buffer (mark .offset) (image block) in
     let same : length next ≡ length buffer = length-put buffer (mark .offset) (image block) in
-    let w : Wrote next (after mark block) (extended sofar (block ∷ [])) blocks (appends next (after mark block) (map requestFor blocks))
+    let w : Wrote next (after mark block) (extended sofar (block ∷ [])) blocks (appends ours next (after mark block) (map requestFor blocks))
     = wrote blocks next (after mark block) (extended sofar (block ∷ [])) (sofar-more buffer mark sofar (requestFor block) block s a) (f .1)
     (omega arith) (omega arith) in
     let p = admitted-appended buffer mark (requestFor block) block a in
-    let outcome : Outcome = appends next (after mark block) (map requestFor blocks) in
+    let outcome : Outcome = appends ours next (after mark block) (map requestFor blocks) in
     let grows : mark .offset + length (image block) ≤ outcome .mark .offset = w .grows in
     rw (p .0, p .1)
     (record {
@@ -60,7 +61,7 @@ wrote (block ∷ blocks) buffer mark sofar s f small fits =
     })
 
 pub fresh : (volume : List ℕ) (reading : Reading) (buffer : List ℕ) → length volume ≤ volumeLimit → ReadingOf volume reading
-    → length volume ≤ length buffer → FreshClaim volume reading buffer
+    → length volume ≤ length buffer → FreshClaim ours volume reading buffer
 unfolding volumeOf
 fresh volume reading buffer small r room =
     let k : Keeps reading = r .keeps in
@@ -72,10 +73,10 @@ fresh volume reading buffer small r room =
     let first : List ℕ = put buffer 0 header in
     let same : length first ≡ length buffer = length-put buffer 0 header in
     let start : Reading = record { header = reading .header; blocks = [] } in
-    let w : Wrote first (startOf reading) start (reading .blocks) (appends first (startOf reading) (map requestFor (reading .blocks)))
+    let w : Wrote first (startOf reading) start (reading .blocks) (appends ours first (startOf reading) (map requestFor (reading .blocks)))
     = wrote (reading .blocks) first (startOf reading) start (header-stands buffer (reading .header) (k .header) (omega arith))
     (keeps-follow reading k) (omega arith) (omega arith) in
-    let outcome : Outcome = appends first (startOf reading) (map requestFor (reading .blocks)) in
+    let outcome : Outcome = appends ours first (startOf reading) (map requestFor (reading .blocks)) in
     let stands : Sofar (outcome .buffer) (outcome .mark) reading = w .stands in
     let bytes : take (outcome .mark .offset) (outcome .buffer) ≡ volume = stands .same ∙ r .bytes in
     let end : outcome .mark .offset ≡ length volume

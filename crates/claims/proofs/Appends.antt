@@ -26,6 +26,7 @@ use Rattle.volume.proofs.Steps.{foundAt, Answers, ends, finds, refuses, answers
 use Rattle.volume.proofs.OneCall.{after, HandedOut, read-sound, Hands, read-complete}
 use Rattle.volume.proofs.Appending.{Appended, appended}
 use Rattle.volume.proofs.Appending as one
+use Rattle.claims.specs.Library.{ours}
 use Rattle.claims.specs.Demand3.{Outcome, onward, answeredFirst, appends, extended, Judged, none-left, accepted, refused, StillRead}
 use Rattle.claims.proofs.Sofar.{Sofar, sofar-more, admitted-permits, permits-admitted}
 
@@ -56,18 +57,18 @@ pub record Claimed (buffer : List ℕ) (mark : Bookmark) (sofar : Reading) (requ
 
 abbrev ClaimedOf : List Request → Type 0
 ClaimedOf requests = (buffer : List ℕ) (mark : Bookmark) (sofar : Reading) → Sofar buffer mark sofar
-    → Claimed buffer mark sofar requests (appends buffer mark requests)
+    → Claimed buffer mark sofar requests (appends ours buffer mark requests)
 
 -- one append, and then the others
 step : (request : Request) (requests : List Request) → ClaimedOf requests
     → (buffer : List ℕ) (mark : Bookmark) (sofar : Reading) → Sofar buffer mark sofar
     → {answer : WriteAnswer} {next : List ℕ} → Appended buffer mark request answer next
-    → Claimed buffer mark sofar (request ∷ requests) (answeredFirst answer (appends next (onward mark answer) requests))
+    → Claimed buffer mark sofar (request ∷ requests) (answeredFirst answer (appends ours next (onward mark answer) requests))
 step request requests others buffer mark sofar s (one.accepted block a) =
     let next : List ℕ = put buffer (mark .offset) (image block) in
     let longer : Reading = extended sofar (block ∷ []) in
     let c = others next (after mark block) longer (sofar-more buffer mark sofar request block s a) in
-    let outcome : Outcome = appends next (after mark block) requests in
+    let outcome : Outcome = appends ours next (after mark block) requests in
     let end : ℕ = mark .offset + length (image block) in
     let grows : end ≤ outcome .mark .offset = c .grows in
     record {
@@ -117,7 +118,7 @@ found-there volume mark found e = go (answers volume mark) e
     go (refuses p f) q = let z : _≡_ {A = ℕ} 0 1 = cc in absurd (omega arith)
 
 pub still-read : (volume more : List ℕ) (mark : Bookmark) (found : Found) → Bytes volume → length (volume ++ more) ≤ volumeLimit
-    → readAnswer volume mark ≡ read.Found found → StillRead volume (volume ++ more) mark found
+    → readAnswer volume mark ≡ read.Found found → StillRead ours volume (volume ++ more) mark found
 still-read volume more mark found b small e =
     let offset : ℕ = mark .offset in
     let block : Block = shown volume (found .block) in

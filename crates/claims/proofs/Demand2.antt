@@ -3,7 +3,7 @@
 -- carried over from the file's list of extents. Assumes nothing.
 use Prim.Native.Nat.{ℕ, _≤_, _<_}
 use mathlib.Core.Path.{_≡_, refl, sym, ap, _∙_}
-use mathlib.Core.Logic.{inl, inr, ⊎-elim}
+use mathlib.Core.Logic.{_↔_, inl, inr, ⊎-elim}
 use mathlib.Core.Bool.{true, false}
 use mathlib.Core.Option.{none, some}
 use mathlib.Core.List.{List}
@@ -24,7 +24,8 @@ use Rattle.lookup.specs.Lookup.{placeFor, lookupFault, positionAnswer}
 use Rattle.lookup.specs.declared.PositionAnswer.the-variants.{PastEnd}
 use Rattle.lookup.proofs.Answers.{position-refused, runs-refused, room-kept}
 use lib.ListN.{length}
-use Rattle.claims.specs.Demand2.{IsPlace, in-a-row, in-each-copy, IsHole, IsStored, LookupClaim, Demand2}
+use Rattle.claims.specs.Library.{ours}
+use Rattle.claims.specs.Demand2.{AllIsThere, IsPlace, in-a-row, in-each-copy, IsHole, IsStored, LookupClaim, Demand2}
 use Rattle.claims.proofs.File.{Passed, all-passed, is-there, all-is-there, no-fault}
 use Rattle.claims.proofs.Ranges.{answer-below, range-claim}
 
@@ -54,7 +55,7 @@ module _ (volume : List ℕ) (offset : ℕ) (lengths : List ℕ) (clear : lookup
   past-end position h = rw (clear, le-ltb position (sizeAt volume offset) h)
 
   module _ (position : ℕ) (h : position < sizeAt volume offset) where
-    is-hole : keeper list position ≡ none → IsHole volume offset lengths position
+    is-hole : keeper list position ≡ none → IsHole ours volume offset lengths position
     is-hole e =
         record {
           kept-by-none =
@@ -65,7 +66,7 @@ module _ (volume : List ℕ) (offset : ℕ) (lengths : List ℕ) (clear : lookup
           run-label = label-none list position e;
         }
 
-    is-stored : (i : ℕ) → keeper list position ≡ some i → IsStored volume offset lengths position
+    is-stored : (i : ℕ) → keeper list position ≡ some i → IsStored ours volume offset lengths position
     is-stored i e =
         let k = keeper-some list i position e in
         let x : Extent = extentAt list i in
@@ -88,7 +89,7 @@ module _ (volume : List ℕ) (offset : ℕ) (lengths : List ℕ) (clear : lookup
           run-label = label-some list position i e;
         }
 
-  claim : LookupClaim volume offset lengths
+  claim : LookupClaim ours volume offset lengths
   claim =
       record {
         hole-or-stored =
@@ -99,22 +100,22 @@ module _ (volume : List ℕ) (offset : ℕ) (lengths : List ℕ) (clear : lookup
         ranges = range-claim volume offset lengths clear;
       }
 
-pub demand-2-holds : Demand2
+pub demand-2-holds : Demand2 ours
 demand-2-holds volume offset lengths b =
+    let clear-iff-there : (lookupFault volume offset lengths ≡ 0) ↔ AllIsThere volume offset lengths
+    = (λ clear. all-is-there volume offset lengths b (all-passed volume offset lengths clear), no-fault volume offset lengths) in
     record {
-      not-refused-iff-all-is-there = (
-        λ clear. all-is-there volume offset lengths b (all-passed volume offset lengths clear),
-        no-fault volume offset lengths,
-      );
-      what-then-holds = claim volume offset lengths;
+      no-fault-iff-all-is-there = clear-iff-there;
+      answered = λ all. claim volume offset lengths (clear-iff-there .1 all);
       refused-otherwise =
-          λ n.
+          λ lacking.
+          let fault : lookupFault volume offset lengths ≡ 0 → ⊥ = λ clear. lacking (clear-iff-there .0 clear) in
           record {
-            positions = λ position. sym (position-refused volume offset lengths refl n position);
+            positions = λ position. sym (position-refused volume offset lengths refl fault position);
             ranges =
                 λ from to out. (
-                  sym (runs-refused volume offset lengths refl n from to (length out)),
-                  sym (room-kept volume offset lengths refl n from to out),
+                  sym (runs-refused volume offset lengths refl fault from to (length out)),
+                  sym (room-kept volume offset lengths refl fault from to out),
                 );
           };
     }

@@ -15,26 +15,28 @@ use Rattle.request.specs.Requests.{Request}
 use Rattle.request.specs.Asking.{Sized}
 use Rattle.volume.specs.declared.Bookmark.{Bookmark}
 use Rattle.request.proofs.Asked.{one-block}
+use Rattle.claims.specs.Library.{ours}
 use Rattle.claims.specs.Demand3Reading.{ReaderGives}
 use Rattle.claims.specs.Demand3.{Outcome, appends, written, VolumeClaim, Start, extended, AcceptedVolume, AppendsClaim, Demand3}
 use Rattle.claims.proofs.Demand3Reading.{reading-gives, check-answers, demand-3-reading-holds}
-use Rattle.claims.proofs.Sofar.{volume-more, Sofar, sofar-keeps, keeps-due}
+use Rattle.claims.proofs.Refused.{refused-volumes}
+use Rattle.claims.proofs.Sofar.{volume-more, Sofar, sofar-keeps, none-due}
 use Rattle.claims.proofs.Appends.{Claimed, claimed, still-read}
 use Rattle.claims.proofs.Starts.{start-stands}
 use Rattle.claims.proofs.Afresh.{fresh}
 
 -- the bytes below a bookmark, where a header and blocks stand there and no table is due
 stands-accepted : (buffer : List ℕ) (mark : Bookmark) (reading : Reading) → Sofar buffer mark reading → mark .due ≡ false
-    → AcceptedVolume (take (mark .offset) buffer) reading mark
+    → AcceptedVolume ours (take (mark .offset) buffer) reading mark
 stands-accepted buffer mark reading s d =
     let volume : List ℕ = take (mark .offset) buffer in
     let r : ReadingOf volume reading = record { keeps = sofar-keeps buffer mark reading s d; bytes = sym (s .same) } in
     let small : length volume ≤ volumeLimit = rw (length-take-le (mark .offset) buffer (s .room)) (s .small) in
-    let gives : ReaderGives volume reading mark
-    = subst (ReaderGives volume reading) (sym (s .mark-after)) (reading-gives volume reading small r) in
+    let gives : ReaderGives ours volume reading mark
+    = subst (ReaderGives ours volume reading) (sym (s .mark-after)) (reading-gives volume reading small r) in
     record { is-reading = r; reader = gives; check = check-answers volume reading mark gives }
 
-volume-claim : (volume : List ℕ) → Bytes volume → length volume ≤ 16777216 → VolumeClaim volume
+volume-claim : (volume : List ℕ) → Bytes volume → length volume ≤ 16777216 → VolumeClaim ours volume
 volume-claim volume b small =
     record {
       reading = demand-3-reading-holds volume b small;
@@ -42,10 +44,10 @@ volume-claim volume b small =
     }
 
 appends-claim : (buffer : List ℕ) (mark : Bookmark) (sofar : Reading) (requests : List Request) → Bytes buffer → All Sized requests
-    → Start buffer mark sofar → AppendsClaim buffer mark sofar requests (appends buffer mark requests)
+    → Start ours buffer mark sofar → AppendsClaim ours buffer mark sofar requests (appends ours buffer mark requests)
 appends-claim buffer mark sofar requests b sized start =
     let s : Sofar buffer mark sofar = start-stands buffer mark sofar b start in
-    let outcome : Outcome = appends buffer mark requests in
+    let outcome : Outcome = appends ours buffer mark requests in
     let c : Claimed buffer mark sofar requests outcome = claimed requests sized buffer mark sofar s in
     let t : Sofar (outcome .buffer) (outcome .mark) (extended sofar (c .blocks)) = c .stands in
     let old : List ℕ = take (mark .offset) buffer in
@@ -59,22 +61,23 @@ appends-claim buffer mark sofar requests b sized start =
       bytes-below = bytes;
       rest-as-it-was = c .rest;
       due-says = (
-        sofar-keeps (outcome .buffer) (outcome .mark) (extended sofar (c .blocks)) t,
-        keeps-due (outcome .buffer) (outcome .mark) (extended sofar (c .blocks)) t,
+        λ none. sofar-keeps (outcome .buffer) (outcome .mark) (extended sofar (c .blocks)) t none .table,
+        none-due (outcome .buffer) (outcome .mark) (extended sofar (c .blocks)) t,
       );
       accepted-volume =
-          λ k.
+          λ rule.
           stands-accepted (outcome .buffer) (outcome .mark) (extended sofar (c .blocks)) t
-          (keeps-due (outcome .buffer) (outcome .mark) (extended sofar (c .blocks)) t k);
+          (none-due (outcome .buffer) (outcome .mark) (extended sofar (c .blocks)) t rule);
       earlier-blocks =
           λ at found e.
           rw bytes (still-read old (images (c .blocks)) at found (bytes-take (mark .offset) buffer b) (rw bytes at small) e);
     }
 
-pub demand-3-holds : Demand3
+pub demand-3-holds : Demand3 ours
 demand-3-holds =
     record {
       volumes = volume-claim;
+      refused-volumes = refused-volumes;
       lists-of-appends = appends-claim;
       one-block-asked-for = λ request a b p k q l. one-block request a b (record { asks = p; keeps = k }) (record { asks = q; keeps = l });
     }

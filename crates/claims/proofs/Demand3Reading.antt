@@ -14,16 +14,16 @@ use Rattle.volume.specs.Heading.{idOf, sequenceOf, previousOf, headerFault, fir
 use Rattle.volume.specs.Checking.{checkFrom, afterHeader, checkAnswer}
 use Rattle.volume.specs.declared.Bookmark.{Bookmark}
 use Rattle.volume.specs.declared.Accepted.{Accepted}
-use Rattle.volume.specs.declared.Refusal.{Refusal}
 use Rattle.volume.specs.declared.Header.{Header as VolumeHeader}
 use Rattle.volume.specs.declared.HeaderAnswer.{HeaderAnswer}
 use Rattle.volume.specs.declared.HeaderAnswer.the-variants as head
 use Rattle.volume.specs.declared.Verdict.the-variants as verdict
 use Rattle.volume.proofs.HeaderImage.{headerAt, HeaderStands, header-sound, length-header, HeaderShown, header-complete}
 use Rattle.volume.proofs.HeaderImage.{givenAt, HeaderAnswers, accepts, rejects, header-answers}
-use Rattle.claims.specs.Demand3Reading.{Calls, Stops, ReaderGives, IsAccepted, Demand3Reading}
+use Rattle.claims.specs.Library.{ours}
+use Rattle.claims.specs.Demand3Reading.{Calls, ReaderGives, IsAccepted, Demand3Reading}
 use Rattle.claims.proofs.Walk.{afterAll, runs-volume, volume-runs}
-use Rattle.claims.proofs.Reader.{Read, calls-sound, calls-complete, check-complete, check-stops, check-ends, calls-same}
+use Rattle.claims.proofs.Reader.{Read, calls-sound, calls-complete, check-complete, check-ends, calls-same}
 
 -- an accepted header has no fault, and it is answered with what stands in it
 header-given : (volume : List ℕ) (given : VolumeHeader) → headerAnswer volume ≡ head.Accepted given
@@ -39,9 +39,9 @@ header-given volume given = go (header-answers volume)
 pub record Given (volume : List ℕ) (reading : Reading) (end : Bookmark) : Type 0 where
   pub no-fault : headerFault volume ≡ 0
   pub same-header : headerAt volume ≡ reading .header
-  pub calls : Calls volume (firstMark (sequenceOf volume)) (reading .blocks) end
+  pub calls : Calls ours volume (firstMark (sequenceOf volume)) (reading .blocks) end
 
-pub given : (volume : List ℕ) (reading : Reading) (end : Bookmark) → ReaderGives volume reading end → Given volume reading end
+pub given : (volume : List ℕ) (reading : Reading) (end : Bookmark) → ReaderGives ours volume reading end → Given volume reading end
 unfolding partAnswer
 given volume reading end g =
     let h = header-given volume _ (g .header) in
@@ -57,7 +57,7 @@ given volume reading end g =
 
 -- blocks that the calls give after an accepted header, with the header that stands there, are a reading
 header-and-calls : (volume : List ℕ) (blocks : List Block) (end : Bookmark) → Bytes volume → headerFault volume ≡ 0
-    → Calls volume (firstMark (sequenceOf volume)) blocks end
+    → Calls ours volume (firstMark (sequenceOf volume)) blocks end
     → ReadingOf volume (record { header = headerAt volume; blocks = blocks })
 unfolding volumeOf
 header-and-calls volume blocks end b f calls =
@@ -70,7 +70,7 @@ header-and-calls volume blocks end b f calls =
     }
 
 -- what the reader gives is a reading
-pub gives-reading : (volume : List ℕ) (reading : Reading) (end : Bookmark) → Bytes volume → ReaderGives volume reading end
+pub gives-reading : (volume : List ℕ) (reading : Reading) (end : Bookmark) → Bytes volume → ReaderGives ours volume reading end
     → ReadingOf volume reading
 gives-reading volume reading end b g =
     let h : Given volume reading end = given volume reading end g in
@@ -79,7 +79,7 @@ gives-reading volume reading end b g =
 
 -- and a reading is what it gives
 pub reading-gives : (volume : List ℕ) (reading : Reading) → length volume ≤ 16777216 → ReadingOf volume reading
-    → ReaderGives volume reading (afterAll (firstMark (reading .header .sequence)) (reading .blocks))
+    → ReaderGives ours volume reading (afterAll (firstMark (reading .header .sequence)) (reading .blocks))
 unfolding volumeOf headerAnswer partAnswer
 reading-gives volume reading small r =
     let header : Header = reading .header in
@@ -102,28 +102,15 @@ reading-gives volume reading small r =
     }
 
 -- the check counts what the reader gives
-pub check-answers : (volume : List ℕ) (reading : Reading) (end : Bookmark) → ReaderGives volume reading end
+pub check-answers : (volume : List ℕ) (reading : Reading) (end : Bookmark) → ReaderGives ours volume reading end
     → checkAnswer volume
     ≡ verdict.Accepted (record { sequence = reading .header .sequence; blocks = length (reading .blocks); end = end })
 unfolding checkAnswer afterHeader
 check-answers volume reading end g =
     rw (g .header, ← zero-add (length (reading .blocks))) (check-complete (reading .header .sequence) 0 (g .blocks))
 
--- and it refuses where the reader does
-header-refused : (volume : List ℕ) (refusal : Refusal) → headerAnswer volume ≡ head.Refused refusal
-    → checkAnswer volume ≡ verdict.Refused (record { refusal = refusal; offset = 0; blocks = 0 })
-unfolding checkAnswer afterHeader
-header-refused volume refusal e = rw e
-
-check-refused : (volume : List ℕ) (header : VolumeHeader) (blocks : List Block) (at : Bookmark) (refusal : Refusal)
-    → headerAnswer volume ≡ head.Accepted header → Stops volume (header .next) blocks at refusal
-    → checkAnswer volume ≡ verdict.Refused (record { refusal = refusal; offset = at .offset; blocks = length blocks })
-unfolding checkAnswer afterHeader
-check-refused volume header blocks at refusal e s =
-    rw (e, ← zero-add (length blocks)) (check-stops (header .sequence) 0 s)
-
 -- where the check accepts, the reader comes to "end", so there is a reading
-accepted-reading : (volume : List ℕ) → Bytes volume → IsAccepted volume → HasReading volume
+accepted-reading : (volume : List ℕ) → Bytes volume → IsAccepted ours volume → HasReading volume
 unfolding checkAnswer afterHeader checkFrom
 accepted-reading volume b a = go (header-answers volume) (a .1)
   where
@@ -142,7 +129,7 @@ one-reading volume small a b p q =
     let blocks : a .blocks ≡ b .blocks = calls-same (g .calls) (h .calls) in
     λ i. record { header = header i; blocks = blocks i }
 
-pub demand-3-reading-holds : Demand3Reading
+pub demand-3-reading-holds : Demand3Reading ours
 demand-3-reading-holds volume b small =
     record {
       accepted-iff-it-has-a-reading =
@@ -151,6 +138,4 @@ demand-3-reading-holds volume b small =
       reader-gives-the-reading =
           λ reading. ((λ r. (_, reading-gives volume reading small r)), λ g. gives-reading volume reading (g .0) b (g .1));
       check-answers-for-the-reading = check-answers volume;
-      check-refuses-the-header = header-refused volume;
-      check-refuses-where-the-reader-does = check-refused volume;
     }

@@ -1,5 +1,6 @@
 pub mod Walk
 pub mod Reader
+pub mod Refused
 pub mod Demand3Reading
 pub mod Sofar
 pub mod Appends

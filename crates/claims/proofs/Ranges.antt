@@ -29,6 +29,7 @@ use Rattle.lookup.specs.Lookup.{placeFor, lookupOrder, lookupFault, positionAns
 use Rattle.lookup.specs.declared.PositionAnswer.{PositionAnswer}
 use Rattle.lookup.specs.declared.PositionAnswer.the-variants.{Hole, Stored}
 use Rattle.lookup.specs.declared.RunsAnswer.the-variants.{Runs, Refused}
+use Rattle.claims.specs.Library.{ours}
 use Rattle.claims.specs.Demand2 as claim
 use Rattle.claims.specs.Demand2.{a-hole, a-byte, RunsSay, run, RangeClaim}
 
@@ -72,7 +73,7 @@ module _ (volume : List ℕ) (offset : ℕ) (lengths : List ℕ) (clear : lookup
 
   -- runs that agree with places agree with the answers
   say : {from to : ℕ} {numbers : List ℕ} → to ≤ sizeAt volume offset → Agrees list from to numbers
-      → (runs : List ℕ) → numbers ≡ runNumbers list from runs → RunsSay volume offset lengths from to runs numbers
+      → (runs : List ℕ) → numbers ≡ runNumbers list from runs → RunsSay ours volume offset lengths from to runs numbers
   unfolding runNumbers
   say small (over l) [] e = claim.over l
   say {from} small (over l) (n ∷ runs) e =
@@ -123,7 +124,7 @@ module _ (volume : List ℕ) (offset : ℕ) (lengths : List ℕ) (clear : lookup
         = fault-is (length out) ∙ rw (lt-ltb (length out) (5 * length lens) h) in
         (rw f, rw f)
 
-    pub range-claim : RangeClaim volume offset lengths from to
+    pub range-claim : RangeClaim ours volume offset lengths from to
     unfolding rangeNumbers
     range-claim =
         record {

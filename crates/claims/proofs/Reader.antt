@@ -24,6 +24,7 @@ use Rattle.volume.specs.declared.Verdict.{Verdict}
 use Rattle.volume.specs.declared.Verdict.the-variants as verdict
 use Rattle.volume.proofs.Steps.{check-step}
 use Rattle.volume.proofs.OneCall.{after, HandedOut, read-sound, Hands, read-complete, AtEnd, end-sound, end-complete}
+use Rattle.claims.specs.Library.{ours}
 use Rattle.claims.specs.Demand3Reading.{Calls, ended, handed, Stops, stopped, handed-before}
 use Rattle.volume.specs.declared.Refusal.{Refusal}
 use Rattle.claims.proofs.Walk.{Runs, afterAll}
@@ -33,7 +34,7 @@ pub record Read (volume : List ℕ) (mark : Bookmark) (blocks : List Block) : Ty
   pub runs : Runs mark blocks
   pub same : drop (mark .offset) volume ≡ images blocks
 
-pub calls-sound : {volume : List ℕ} {mark end : Bookmark} {blocks : List Block} → Bytes volume → Calls volume mark blocks end
+pub calls-sound : {volume : List ℕ} {mark end : Bookmark} {blocks : List Block} → Bytes volume → Calls ours volume mark blocks end
     → Read volume mark blocks
 unfolding images
 calls-sound {volume} {mark} b (ended e) =
@@ -51,7 +52,7 @@ calls-sound {volume} {mark} b (handed {found = found} {blocks = blocks} e calls)
 -- where such blocks stand to the end of the volume, the calls give them
 pub calls-complete : (volume : List ℕ) (mark : Bookmark) (blocks : List Block) → length volume ≤ volumeLimit
     → 80 ≤ mark .offset → mark .offset ≤ length volume → Runs mark blocks → drop (mark .offset) volume ≡ images blocks
-    → Calls volume mark blocks (afterAll mark blocks)
+    → Calls ours volume mark blocks (afterAll mark blocks)
 unfolding images
 calls-complete volume mark [] small base within runs e =
     let offset : mark .offset ≡ length volume = omega (arith, length-drop (mark .offset) volume, ap length e) in
@@ -61,14 +62,14 @@ calls-complete volume mark (block ∷ blocks) small base within runs e =
     let n : ℕ = length (image block) in
     let l : length volume - mark .offset ≡ n + length (images blocks)
     = sym (length-drop (mark .offset) volume) ∙ ap length e ∙ length-append (image block) (images blocks) in
-    let others : Calls volume (after mark block) blocks (afterAll (after mark block) blocks)
+    let others : Calls ours volume (after mark block) blocks (afterAll (after mark block) blocks)
     = calls-complete volume (after mark block) blocks small (omega arith) (omega arith) (runs .1)
     (drop-past volume (image block) (images blocks) (mark .offset) n e refl) in
-    subst (λ b. Calls volume mark (b ∷ blocks) (afterAll (after mark block) blocks)) (p .same)
+    subst (λ b. Calls ours volume mark (b ∷ blocks) (afterAll (after mark block) blocks)) (p .same)
     (handed (p .answer) (rw (p .next) others))
 
 -- where the reader comes to "end", the check from the same bookmark on accepts, and has counted the blocks
-pub check-complete : {volume : List ℕ} {mark end : Bookmark} {blocks : List Block} (sequence count : ℕ) → Calls volume mark blocks end
+pub check-complete : {volume : List ℕ} {mark end : Bookmark} {blocks : List Block} (sequence count : ℕ) → Calls ours volume mark blocks end
     → checkFrom volume sequence mark count
     ≡ verdict.Accepted (record { sequence = sequence; blocks = count + length blocks; end = end })
 unfolding judge
@@ -79,7 +80,7 @@ check-complete {volume} {mark} sequence count (handed {blocks = blocks} e calls)
 
 -- where the reader refuses, the check from the same bookmark on refuses there, and has counted the blocks before
 pub check-stops : {volume : List ℕ} {mark at : Bookmark} {blocks : List Block} {refusal : Refusal} (sequence count : ℕ)
-    → Stops volume mark blocks at refusal
+    → Stops ours volume mark blocks at refusal
     → checkFrom volume sequence mark count
     ≡ verdict.Refused (record { refusal = refusal; offset = at .offset; blocks = count + length blocks })
 unfolding judge
@@ -90,7 +91,7 @@ check-stops {volume} {mark} sequence count (handed-before {blocks = blocks} e ca
 
 -- where the check accepts, the reader comes to "end" at the check's end bookmark
 abbrev Ends : (volume : List ℕ) → Bookmark → Bookmark → Type 0
-Ends volume mark end = (blocks : List Block) × Calls volume mark blocks end
+Ends volume mark end = (blocks : List Block) × Calls ours volume mark blocks end
 
 judge-ends : (volume : List ℕ) (sequence : ℕ) (mark : Bookmark) (count : ℕ) (answer : Accepted) (onward : Bookmark → Verdict)
     → ((next : Bookmark) → onward next ≡ verdict.Accepted answer → Ends volume next (answer .end))
@@ -99,7 +100,7 @@ judge-ends : (volume : List ℕ) (sequence : ℕ) (mark : Bookmark) (count : ℕ
 unfolding judge
 judge-ends volume sequence mark count answer onward later read.End r e =
     let end : mark ≡ answer .end = cc in
-    ([], subst (Calls volume mark []) end (ended r))
+    ([], subst (Calls ours volume mark []) end (ended r))
 judge-ends volume sequence mark count answer onward later (read.Found found) r e =
     let others = later (found .next) e in
     (shown volume (found .block) ∷ others .0, handed r (others .1))
@@ -116,11 +117,11 @@ check-ends (suc fuel) volume sequence mark count answer e =
 
 -- the calls are fixed by the volume and the bookmark
 pub calls-same : {volume : List ℕ} {mark end other-end : Bookmark} {blocks others : List Block}
-    → Calls volume mark blocks end → Calls volume mark others other-end → blocks ≡ others
+    → Calls ours volume mark blocks end → Calls ours volume mark others other-end → blocks ≡ others
 calls-same (ended e) (ended f) = refl
 calls-same (ended e) (handed f g) = let z : _≡_ {A = ℕ} 0 1 = cc in absurd (omega arith)
 calls-same (handed e c) (ended f) = let z : _≡_ {A = ℕ} 0 1 = cc in absurd (omega arith)
 calls-same {volume} (handed {end = end} {found = found} {blocks = blocks} e c) (handed {found = other} f d) =
     let same : found ≡ other = cc in
     ap₂ _∷_ (ap (λ a. shown volume (a .block)) same)
-    (calls-same (subst (λ a. Calls volume (a .next) blocks end) same c) d)
+    (calls-same (subst (λ a. Calls ours volume (a .next) blocks end) same c) d)

@@ -1,6 +1,6 @@
 -- What stands in a buffer below a bookmark while blocks are appended: a header and blocks, each allowed at the bookmark before it.
 -- An accepted append adds one block, and that happens exactly where the rules allow the block. Assumes nothing.
-use Prim.Native.Nat.{ℕ, _+_, _≤_}
+use Prim.Native.Nat.{ℕ, zero, suc, _+_, _≤_}
 use mathlib.Core.Path.{_≡_, refl, sym, ap, _∙_, subst}
 use mathlib.Core.Bool.{false}
 use mathlib.Core.List.{List, [], _∷_, _++_, append-assoc, append-nil}
@@ -11,15 +11,15 @@ use Rattle.number.specs.Number.{put}
 use Rattle.number.proofs.Put.{put-fits, length-put}
 use Rattle.format.specs.Blocks.{Block, image}
 use Rattle.format.specs.Headers.{headerImage, HeaderRules}
-use Rattle.format.specs.Readings.{Reading, Keeps, images, volumeOf}
+use Rattle.format.specs.Readings.{Reading, TableRule, Keeps, images, volumeOf}
 use Rattle.block.specs.Order.{volumeLimit}
 use Rattle.volume.specs.Heading.{firstMark}
 use Rattle.request.specs.Requests.{Request}
 use Rattle.volume.specs.declared.Bookmark.{Bookmark}
 use Rattle.volume.proofs.OneCall.{Allowed, after}
 use Rattle.volume.proofs.Appending.{Admitted}
-use Rattle.claims.specs.Demand3.{extended, Permits}
-use Rattle.claims.proofs.Walk.{Runs, afterAll, runs-volume, volume-runs, runs-end}
+use Rattle.claims.specs.Demand3.{extended, Permits, NoTableDue}
+use Rattle.claims.proofs.Walk.{Runs, afterAll, runs-volume, volume-runs}
 
 -- Blocks one after the other, and one more.
 
@@ -107,11 +107,19 @@ sofar-keeps buffer mark sofar s d =
     let k = runs-volume (sofar .header .sequence) (sofar .blocks) (follow-runs (startOf sofar) (sofar .blocks) (s .follow) due) in
     record { header = s .header; each = k .0; table = k .1; times = k .2 }
 
--- and the other way round
-pub keeps-due : (buffer : List ℕ) (mark : Bookmark) (sofar : Reading) → Sofar buffer mark sofar → Keeps sofar → mark .due ≡ false
-keeps-due buffer mark sofar s k =
-    ap (λ (m : Bookmark). m .due) (s .mark-after)
-    ∙ runs-end (startOf sofar) (sofar .blocks) (volume-runs (sofar .header .sequence) (sofar .blocks) (k .each, k .table, k .times))
+-- and no table is due where they keep the rule on tables
+due-after : (sequence : ℕ) (blocks : List Block) → TableRule sequence blocks → afterAll (firstMark sequence) blocks .due ≡ false
+due-after zero [] rule = refl
+due-after (suc n) [] rule = absurd rule
+due-after sequence (block ∷ blocks) rule = later (after (firstMark sequence) block) blocks refl
+  where
+    later : (mark : Bookmark) (others : List Block) → mark .due ≡ false → afterAll mark others .due ≡ false
+    later mark [] d = d
+    later mark (other ∷ others) d = later (after mark other) others refl
+
+pub none-due : (buffer : List ℕ) (mark : Bookmark) (sofar : Reading) → Sofar buffer mark sofar → NoTableDue sofar → mark .due ≡ false
+none-due buffer mark sofar s rule =
+    ap (λ (m : Bookmark). m .due) (s .mark-after) ∙ due-after (sofar .header .sequence) (sofar .blocks) rule
 
 pub keeps-follow : (reading : Reading) → Keeps reading → Follow (startOf reading) (reading .blocks)
 keeps-follow reading k =

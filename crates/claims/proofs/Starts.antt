@@ -16,6 +16,7 @@ use Rattle.volume.specs.declared.Bookmark.{Bookmark}
 use Rattle.volume.specs.declared.Accepted.{Accepted}
 use Rattle.volume.proofs.HeaderImage.{length-header, HeaderStands, header-sound}
 use Rattle.volume.proofs.Appending.{Written, written-header}
+use Rattle.claims.specs.Library.{ours}
 use Rattle.claims.specs.Demand3Reading.{ReaderGives}
 use Rattle.claims.specs.Demand3.{Start, from-volume, from-header}
 use Rattle.claims.proofs.Walk.{afterAll}
@@ -62,7 +63,7 @@ volume-stands volume spare reading small r =
     }
 
 -- the reader comes to "end" at one bookmark only
-one-end : (volume : List ℕ) (reading : Reading) (a b : Bookmark) → ReaderGives volume reading a → ReaderGives volume reading b → a ≡ b
+one-end : (volume : List ℕ) (reading : Reading) (a b : Bookmark) → ReaderGives ours volume reading a → ReaderGives ours volume reading b → a ≡ b
 one-end volume reading a b p q =
     let accepted : Bookmark → Accepted
     = λ end. record { sequence = reading .header .sequence; blocks = length (reading .blocks); end = end } in
@@ -71,7 +72,7 @@ one-end volume reading a b p q =
     let same : accepted a ≡ accepted b = cc in
     ap (λ (answer : Accepted). answer .end) same
 
-pub start-stands : (buffer : List ℕ) (mark : Bookmark) (sofar : Reading) → Bytes buffer → Start buffer mark sofar → Sofar buffer mark sofar
+pub start-stands : (buffer : List ℕ) (mark : Bookmark) (sofar : Reading) → Bytes buffer → Start ours buffer mark sofar → Sofar buffer mark sofar
 start-stands buffer mark sofar b (from-volume volume spare reading e a g) =
     let v : Bytes volume = subst Bytes (take-at volume spare (length volume) refl) (bytes-take (length volume) (volume ++ spare) (rw e b)) in
     let r : ReadingOf volume reading = gives-reading volume reading mark v g in

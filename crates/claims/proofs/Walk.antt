@@ -30,11 +30,6 @@ abbrev pub afterAll : Bookmark → List Block → Bookmark
 afterAll mark [] = mark
 afterAll mark (block ∷ blocks) = afterAll (after mark block) blocks
 
--- where the rules are kept, no table is due after all the blocks
-pub runs-end : (mark : Bookmark) (blocks : List Block) → Runs mark blocks → afterAll mark blocks .due ≡ false
-runs-end mark [] r = r
-runs-end mark (block ∷ blocks) r = runs-end (after mark block) blocks (r .1)
-
 not-table : (block : Block) → isTable block ≡ false → IsTable block → ⊥
 not-table block e t = false≢true (sym e ∙ table-iff block .1 t)
 

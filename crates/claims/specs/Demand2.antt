@@ -2,9 +2,8 @@
 -- inside the volume that the answer names, provided that the lengths lent are those of the volumes. A range query says of every
 -- position of its range what the lookup of that position answers.
 --
--- `positionAnswer` is the answer of position, `runsAnswer` of runs, and `runsRoom` is what the list lent to runs then holds: these
--- calls have the equations in their contracts. `lookupFault` is a lookup's refusal, or 0 where it is not refused. Proved in
--- proofs/Demand2.antt.
+-- It is a claim about a library, by its calls. `lookupFault` is the number of the first fault by the order of a lookup's checks, or 0
+-- where there is none. Proved of ours in proofs/Demand2.antt.
 use Prim.Native.Nat.{ℕ, _+_, _-_, _*_, _%_, _≤_, _<_, min}
 use mathlib.Core.Path.{_≡_}
 use mathlib.Core.Logic.{_⊎_, _↔_}
@@ -20,10 +19,11 @@ use Rattle.block.specs.Fields.{sizeAt, restAt}
 use Rattle.volume.specs.Heading.{refusalOf}
 use Rattle.runs.specs.Positions.{copyOf}
 use Rattle.runs.specs.Runs.{hole, stored, label, IsRuns}
-use Rattle.lookup.specs.Lookup.{entryCount, lengthOf, lookupFault, positionAnswer, runsAnswer, runsRoom}
+use Rattle.lookup.specs.Lookup.{entryCount, lengthOf, lookupFault}
 use Rattle.lookup.specs.declared.PositionAnswer.{PositionAnswer as Answer}
 use Rattle.lookup.specs.declared.PositionAnswer.the-variants as PositionAnswer
 use Rattle.lookup.specs.declared.RunsAnswer.the-variants as RunsAnswer
+use Rattle.claims.specs.Library.{Library}
 
 -- The file whose inode block stands at an offset: how many extents it has, and each by its number, counted from 0.
 abbrev pub extentsIn : (volume : List ℕ) (offset : ℕ) → ℕ
@@ -78,89 +78,90 @@ pub data IsPlace (e : Extent) (position : ℕ) : (place : ℕ) → Type 0 where
 abbrev pub TrueLengths : (lengths : List ℕ) (volumes : ℕ → List ℕ) → Type 0
 TrueLengths lengths volumes = (i : ℕ) → i < entryCount lengths → lengthOf lengths i ≡ length (volumes i)
 
--- A hole: no extent of the file keeps the position, and the answer says so.
-pub record IsHole (volume : List ℕ) (offset : ℕ) (lengths : List ℕ) (position : ℕ) : Type 0 where
-  pub kept-by-none : (index : ℕ) → KeptBy volume offset position index → ⊥
-  pub answer : positionAnswer volume offset lengths position ≡ PositionAnswer.Hole
-  -- for runs, it is part of a hole
-  pub run-label : label (restAt volume offset) position ≡ hole
-
--- One stored byte: one extent of the file keeps the position and no other does, and the answer is the place of the byte.
-pub record IsStored (volume : List ℕ) (offset : ℕ) (lengths : List ℕ) (position : ℕ) : Type 0 where
-  pub keeper : ℕ
-  pub kept : KeptBy volume offset position keeper
-  pub by-no-other : (index : ℕ) → KeptBy volume offset position index → index ≡ keeper
-  pub place : ℕ
-  pub is-place : IsPlace (extentOf volume offset keeper) position place
-  pub answer : positionAnswer volume offset lengths position
-      ≡ PositionAnswer.Stored (record { volume = extentOf volume offset keeper .volume; offset = record { 0 = place } })
-  -- the volume has an entry, and the place lies below its length
-  pub named : extentOf volume offset keeper .volume < entryCount lengths
-  pub below : place < lengthOf lengths (extentOf volume offset keeper .volume)
-  -- so the byte is there
-  pub inside : (volumes : ℕ → List ℕ) → TrueLengths lengths volumes → place < length (volumes (extentOf volume offset keeper .volume))
-  -- for runs, it is part of this extent's copy of its block in which the raw byte lies
-  pub run-label : label (restAt volume offset) position ≡ stored keeper (copyOf (extentOf volume offset keeper) position)
-
 -- What a run says of the k-th of its positions. Kind 0, with two zeros: a hole. Kind 1: a stored byte, k after the first.
 pub data Says : (kind number start k : ℕ) → Answer → Type 0 where
   a-hole : {k : ℕ} → Says 0 0 0 k PositionAnswer.Hole
   a-byte : {number start k : ℕ}
       → Says 1 number start k (PositionAnswer.Stored (record { volume = number; offset = record { 0 = start + k } }))
 
--- Runs that lie end to end from `from` to below `to`, by their lengths and by their numbers, five a run: logical start, length,
--- kind, volume, offset. Each run says of its positions what the lookup of the position answers.
-pub data RunsSay (volume : List ℕ) (offset : ℕ) (lengths : List ℕ) : (from to : ℕ) (runs numbers : List ℕ) → Type 0 where
-  -- nothing is left
-  over : {from to : ℕ} → to ≤ from → RunsSay volume offset lengths from to [] []
-  -- a run, and then the others
-  run : {from to len kind number start : ℕ} {runs numbers : List ℕ} → 0 < len → from + len ≤ to
-      → ((k : ℕ) → k < len → Says kind number start k (positionAnswer volume offset lengths (from + k)))
-      → RunsSay volume offset lengths (from + len) to runs numbers
-      → RunsSay volume offset lengths from to (len ∷ runs) (from ∷ len ∷ kind ∷ number ∷ start ∷ numbers)
+module _ (library : Library) where
+  -- A hole: no extent of the file keeps the position, and the answer says so.
+  pub record IsHole (volume : List ℕ) (offset : ℕ) (lengths : List ℕ) (position : ℕ) : Type 0 where
+    pub kept-by-none : (index : ℕ) → KeptBy volume offset position index → ⊥
+    pub answer : library .position volume offset lengths position ≡ PositionAnswer.Hole
+    -- for runs, it is part of a hole
+    pub run-label : label (restAt volume offset) position ≡ hole
 
--- What is claimed of a range, which is clipped to the size.
-pub record RangeClaim (volume : List ℕ) (offset : ℕ) (lengths : List ℕ) (from to : ℕ) : Type 0 where
-  -- the lengths of its runs, and their numbers
-  pub runs : List ℕ
-  pub numbers : List ℕ
-  pub runs-agree-with-positions : RunsSay volume offset lengths from (min to (sizeAt volume offset)) runs numbers
-  -- the runs are the longest stretches of positions with one label, and nothing else is
-  pub longest : IsRuns (restAt volume offset) from (min to (sizeAt volume offset)) runs
-  pub only : (others : List ℕ) → IsRuns (restAt volume offset) from (min to (sizeAt volume offset)) others → others ≡ runs
-  -- with room for five numbers a run, the answer is how many runs there are; the list then begins with their numbers, and the
-  -- rest of it is as it was
-  pub room-enough : (out : List ℕ) → 5 * length runs ≤ length out
-      → (runsAnswer volume offset lengths from to (length out) ≡ RunsAnswer.Runs (length runs))
-      × (runsRoom volume offset lengths from to out ≡ numbers ++ drop (5 * length runs) out)
-  -- with less room, the answer is 17 and the list stays
-  pub room-too-small : (out : List ℕ) → length out < 5 * length runs
-      → (runsAnswer volume offset lengths from to (length out) ≡ RunsAnswer.Refused (refusalOf 17))
-      × (runsRoom volume offset lengths from to out ≡ out)
+  -- One stored byte: one extent of the file keeps the position and no other does, and the answer is the place of the byte.
+  pub record IsStored (volume : List ℕ) (offset : ℕ) (lengths : List ℕ) (position : ℕ) : Type 0 where
+    pub keeper : ℕ
+    pub kept : KeptBy volume offset position keeper
+    pub by-no-other : (index : ℕ) → KeptBy volume offset position index → index ≡ keeper
+    pub place : ℕ
+    pub is-place : IsPlace (extentOf volume offset keeper) position place
+    pub answer : library .position volume offset lengths position
+        ≡ PositionAnswer.Stored (record { volume = extentOf volume offset keeper .volume; offset = record { 0 = place } })
+    -- the volume has an entry, and the place lies below its length
+    pub named : extentOf volume offset keeper .volume < entryCount lengths
+    pub below : place < lengthOf lengths (extentOf volume offset keeper .volume)
+    -- so the byte is there
+    pub inside : (volumes : ℕ → List ℕ) → TrueLengths lengths volumes → place < length (volumes (extentOf volume offset keeper .volume))
+    -- for runs, it is part of this extent's copy of its block in which the raw byte lies
+    pub run-label : label (restAt volume offset) position ≡ stored keeper (copyOf (extentOf volume offset keeper) position)
 
--- What is claimed of a lookup that is not refused.
-pub record LookupClaim (volume : List ℕ) (offset : ℕ) (lengths : List ℕ) : Type 0 where
-  pub hole-or-stored : (position : ℕ) → position < sizeAt volume offset
-      → IsHole volume offset lengths position ⊎ IsStored volume offset lengths position
-  pub never-both : (position : ℕ) → IsHole volume offset lengths position → IsStored volume offset lengths position → ⊥
-  pub past-the-end : (position : ℕ) → sizeAt volume offset ≤ position
-      → positionAnswer volume offset lengths position ≡ PositionAnswer.PastEnd
-  pub ranges : (from to : ℕ) → RangeClaim volume offset lengths from to
+  -- Runs that lie end to end from `from` to below `to`, by their lengths and by their numbers, five a run: logical start, length,
+  -- kind, volume, offset. Each run says of its positions what the lookup of the position answers.
+  pub data RunsSay (volume : List ℕ) (offset : ℕ) (lengths : List ℕ) : (from to : ℕ) (runs numbers : List ℕ) → Type 0 where
+    -- nothing is left
+    over : {from to : ℕ} → to ≤ from → RunsSay volume offset lengths from to [] []
+    -- a run, and then the others
+    run : {from to len kind number start : ℕ} {runs numbers : List ℕ} → 0 < len → from + len ≤ to
+        → ((k : ℕ) → k < len → Says kind number start k (library .position volume offset lengths (from + k)))
+        → RunsSay volume offset lengths (from + len) to runs numbers
+        → RunsSay volume offset lengths from to (len ∷ runs) (from ∷ len ∷ kind ∷ number ∷ start ∷ numbers)
 
--- What is claimed of a lookup that is refused: every position and every range is answered with the number of its first fault, and
--- the lent list stays.
-pub record RefusedClaim (volume : List ℕ) (offset : ℕ) (lengths : List ℕ) : Type 0 where
-  pub positions : (position : ℕ)
-      → positionAnswer volume offset lengths position ≡ PositionAnswer.Refused (refusalOf (lookupFault volume offset lengths))
-  pub ranges : (from to : ℕ) (out : List ℕ)
-      → (runsAnswer volume offset lengths from to (length out) ≡ RunsAnswer.Refused (refusalOf (lookupFault volume offset lengths)))
-      × (runsRoom volume offset lengths from to out ≡ out)
+  -- What is claimed of a range, which is clipped to the size.
+  pub record RangeClaim (volume : List ℕ) (offset : ℕ) (lengths : List ℕ) (from to : ℕ) : Type 0 where
+    -- the lengths of its runs, and their numbers
+    pub runs : List ℕ
+    pub numbers : List ℕ
+    pub runs-agree-with-positions : RunsSay volume offset lengths from (min to (sizeAt volume offset)) runs numbers
+    -- the runs are the longest stretches of positions with one label, and nothing else is
+    pub longest : IsRuns (restAt volume offset) from (min to (sizeAt volume offset)) runs
+    pub only : (others : List ℕ) → IsRuns (restAt volume offset) from (min to (sizeAt volume offset)) others → others ≡ runs
+    -- with room for five numbers a run, the answer is how many runs there are; the list then begins with their numbers, and the
+    -- rest of it is as it was
+    pub room-enough : (out : List ℕ) → 5 * length runs ≤ length out
+        → (library .runs volume offset lengths from to (length out) ≡ RunsAnswer.Runs (length runs))
+        × (library .runsList volume offset lengths from to out ≡ numbers ++ drop (5 * length runs) out)
+    -- with less room, the answer is 17 and the list stays
+    pub room-too-small : (out : List ℕ) → length out < 5 * length runs
+        → (library .runs volume offset lengths from to (length out) ≡ RunsAnswer.Refused (refusalOf 17))
+        × (library .runsList volume offset lengths from to out ≡ out)
 
--- Demand 2 on lookup: which lookups are not refused, and all of this holds of each of them.
-pub record Demand2For (volume : List ℕ) (offset : ℕ) (lengths : List ℕ) : Type 0 where
-  pub not-refused-iff-all-is-there : (lookupFault volume offset lengths ≡ 0) ↔ AllIsThere volume offset lengths
-  pub what-then-holds : lookupFault volume offset lengths ≡ 0 → LookupClaim volume offset lengths
-  pub refused-otherwise : (lookupFault volume offset lengths ≡ 0 → ⊥) → RefusedClaim volume offset lengths
+  -- What is claimed of a lookup where all is there: it is answered.
+  pub record LookupClaim (volume : List ℕ) (offset : ℕ) (lengths : List ℕ) : Type 0 where
+    pub hole-or-stored : (position : ℕ) → position < sizeAt volume offset
+        → IsHole volume offset lengths position ⊎ IsStored volume offset lengths position
+    pub never-both : (position : ℕ) → IsHole volume offset lengths position → IsStored volume offset lengths position → ⊥
+    pub past-the-end : (position : ℕ) → sizeAt volume offset ≤ position
+        → library .position volume offset lengths position ≡ PositionAnswer.PastEnd
+    pub ranges : (from to : ℕ) → RangeClaim volume offset lengths from to
 
-abbrev pub Demand2 : Type 0
-Demand2 = (volume : List ℕ) (offset : ℕ) (lengths : List ℕ) → Bytes volume → Demand2For volume offset lengths
+  -- What is claimed of a lookup that is refused: every position and every range gets the number, no position a place and no range a
+  -- number of runs, and the lent list stays as it was.
+  pub record RefusedClaim (volume : List ℕ) (offset : ℕ) (lengths : List ℕ) (number : ℕ) : Type 0 where
+    pub positions : (position : ℕ) → library .position volume offset lengths position ≡ PositionAnswer.Refused (refusalOf number)
+    pub ranges : (from to : ℕ) (out : List ℕ)
+        → (library .runs volume offset lengths from to (length out) ≡ RunsAnswer.Refused (refusalOf number))
+        × (library .runsList volume offset lengths from to out ≡ out)
+
+  -- Demand 2 on lookup. What is asked about a file is answered if all that the file needs is there, and otherwise refused, with the
+  -- number of the first fault.
+  pub record Demand2For (volume : List ℕ) (offset : ℕ) (lengths : List ℕ) : Type 0 where
+    pub no-fault-iff-all-is-there : (lookupFault volume offset lengths ≡ 0) ↔ AllIsThere volume offset lengths
+    pub answered : AllIsThere volume offset lengths → LookupClaim volume offset lengths
+    pub refused-otherwise : (AllIsThere volume offset lengths → ⊥) → RefusedClaim volume offset lengths (lookupFault volume offset lengths)
+
+  abbrev pub Demand2 : Type 0
+  Demand2 = (volume : List ℕ) (offset : ℕ) (lengths : List ℕ) → Bytes volume → Demand2For volume offset lengths

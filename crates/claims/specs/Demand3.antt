@@ -1,7 +1,6 @@
 -- Demand 3, whole: what it says of a volume, and what it says of a list of appends.
 --
--- `writeAnswer` and `appendAnswer` are the answers of the header writer and of the appends, and `writeBuffer` and `appendBuffer` are
--- what the buffer holds after them: these calls have the equations in their contracts. Proved in proofs/Demand3.antt.
+-- It is a claim about a library, by its calls. Proved of ours in proofs/Demand3.antt.
 use Prim.Native.Nat.{ℕ, _≤_}
 use mathlib.Core.Path.{_≡_}
 use mathlib.Core.Bool.{false}
@@ -12,14 +11,12 @@ use Rattle.number.specs.Number.{Bytes}
 use Rattle.format.specs.Layout.{All}
 use Rattle.format.specs.Blocks.{Block, BlockRules}
 use Rattle.format.specs.Headers.{Header}
-use Rattle.format.specs.Readings.{Reading, Keeps, images, volumeOf, ReadingOf}
+use Rattle.format.specs.Readings.{Reading, TableRule, Keeps, images, volumeOf, ReadingOf}
 use Rattle.block.specs.Shown.{shown}
 use Rattle.volume.specs.Heading.{firstMark}
-use Rattle.volume.specs.Reading.{readAnswer}
-use Rattle.volume.specs.Checking.{checkAnswer}
 use Rattle.request.specs.Requests.{Request}
 use Rattle.request.specs.Asking.{requestFor, Sized}
-use Rattle.volume.specs.Writing.{SizedHeader, appendAnswer, appendBuffer, writeAnswer, writeBuffer}
+use Rattle.volume.specs.Writing.{SizedHeader}
 use Rattle.volume.specs.declared.Bookmark.{Bookmark}
 use Rattle.volume.specs.declared.Found.{Found}
 use Rattle.volume.specs.declared.Refusal.{Refusal}
@@ -27,9 +24,10 @@ use Rattle.volume.specs.declared.ReadAnswer.the-variants as ReadAnswer
 use Rattle.volume.specs.declared.Verdict.the-variants as Verdict
 use Rattle.volume.specs.declared.WriteAnswer.{WriteAnswer}
 use Rattle.volume.specs.declared.WriteAnswer.the-variants.{Next, Refused}
-use Rattle.claims.specs.Demand3Reading.{ReaderGives, IsAccepted, ReadingClaim}
+use Rattle.claims.specs.Library.{Library}
+use Rattle.claims.specs.Demand3Reading.{ReaderGives, IsAccepted, ReadingClaim, RefusedVolumes}
 
--- The calls.
+-- What appends leave.
 
 -- what a list of appends leaves: an answer for each, the buffer, and the last bookmark
 pub record Outcome : Type 0 where
@@ -45,61 +43,15 @@ onward mark (Refused refusal) = mark
 abbrev pub answeredFirst : WriteAnswer → Outcome → Outcome
 answeredFirst answer others = record { answers = answer ∷ others .answers; buffer = others .buffer; mark = others .mark }
 
--- the appends of a list, one after the other: buffer and bookmark go from each to the next
-unfoldable pub appends : (buffer : List ℕ) → Bookmark → List Request → Outcome
-appends buffer mark [] = record { answers = []; buffer = buffer; mark = mark }
-appends buffer mark (request ∷ requests) =
-    answeredFirst (appendAnswer (length buffer) mark request)
-    (appends (appendBuffer buffer mark request) (onward mark (appendAnswer (length buffer) mark request)) requests)
-
--- a reading written afresh: its header, and then its blocks by one append each. The first append gets the bookmark that the header
--- writer returns (`header-accepted` below)
-abbrev pub writtenAfresh : (buffer : List ℕ) → Reading → Outcome
-writtenAfresh buffer reading =
-    appends (writeBuffer buffer (reading .header)) (firstMark (reading .header .sequence)) (map requestFor (reading .blocks))
-
 -- the bytes below the last bookmark
 abbrev pub written : Outcome → List ℕ
 written outcome = take (outcome .mark .offset) (outcome .buffer)
-
--- Writing a volume afresh.
 
 abbrev pub IsNext : WriteAnswer → Type 0
 IsNext (Next next) = Unit {0}
 IsNext (Refused refusal) = ⊥
 
--- What is claimed of writing a volume afresh in a buffer.
-pub record FreshClaim (volume : List ℕ) (reading : Reading) (buffer : List ℕ) : Type 0 where
-  -- no call refuses
-  pub header-accepted : writeAnswer (length buffer) (reading .header) ≡ Next (firstMark (reading .header .sequence))
-  pub each-append-accepted : All IsNext (writtenAfresh buffer reading .answers)
-  -- what stands below the last bookmark is the volume, and nothing else has changed
-  pub same-bytes : written (writtenAfresh buffer reading) ≡ volume
-  pub rest-as-it-was : drop (length volume) (writtenAfresh buffer reading .buffer) ≡ drop (length volume) buffer
-
--- What is claimed of a volume: acceptance, its one reading, the reader, and writing it afresh with room enough.
-pub record VolumeClaim (volume : List ℕ) : Type 0 where
-  pub reading : ReadingClaim volume
-  pub afresh : (reading : Reading) (buffer : List ℕ) → ReadingOf volume reading → length volume ≤ length buffer
-      → FreshClaim volume reading buffer
-
--- Appending.
-
--- Where appending starts, with the header and blocks that stand there. Either the buffer begins with an accepted volume and the
--- bookmark is its end bookmark, or the header writer has returned the bookmark and left the buffer.
-pub data Start (buffer : List ℕ) (mark : Bookmark) : Reading → Type 0 where
-  from-volume :
-      (volume spare : List ℕ) (reading : Reading)
-      → volume ++ spare ≡ buffer
-      → IsAccepted volume
-      → ReaderGives volume reading mark
-      → Start buffer mark reading
-  from-header :
-      (before : List ℕ) (header : Header)
-      → SizedHeader header
-      → writeAnswer (length before) header ≡ Next mark
-      → writeBuffer before header ≡ buffer
-      → Start buffer mark (record { header = header; blocks = [] })
+-- Which blocks may be appended.
 
 -- a header and blocks with more blocks after them
 abbrev pub extended : Reading → List Block → Reading
@@ -131,52 +83,106 @@ pub data Judged (room : ℕ) : (sofar : Reading) → List Request → List Write
       → Judged room sofar requests answers blocks
       → Judged room sofar (request ∷ requests) (Refused refusal ∷ answers) blocks
 
--- Both the reader and the check take the bytes for a volume with this reading and this end bookmark.
-pub record AcceptedVolume (volume : List ℕ) (reading : Reading) (end : Bookmark) : Type 0 where
-  pub is-reading : ReadingOf volume reading
-  pub reader : ReaderGives volume reading end
-  pub check :
-      checkAnswer volume ≡ Verdict.Accepted (record { sequence = reading .header .sequence; blocks = length (reading .blocks); end = end })
+-- No table is due after a header and blocks: they keep the rule on tables as they stand, so that none is still to come.
+abbrev pub NoTableDue : Reading → Type 0
+NoTableDue sofar = TableRule (sofar .header .sequence) (sofar .blocks)
 
--- A block that is read at a bookmark in a volume is read there in the later one too: same fields, same places of its parts, and the
--- same bytes in them.
-pub record StillRead (volume later : List ℕ) (mark : Bookmark) (found : Found) : Type 0 where
-  pub same-place : readAnswer later mark ≡ ReadAnswer.Found found
-  pub same-reading : shown later (found .block) ≡ shown volume (found .block)
+module _ (library : Library) where
+  -- the appends of a list, one after the other: buffer and bookmark go from each to the next
+  unfoldable pub appends : (buffer : List ℕ) → Bookmark → List Request → Outcome
+  appends buffer mark [] = record { answers = []; buffer = buffer; mark = mark }
+  appends buffer mark (request ∷ requests) =
+      answeredFirst (library .append (length buffer) mark request)
+      (appends (library .appendBuffer buffer mark request) (onward mark (library .append (length buffer) mark request)) requests)
 
--- What is claimed of a list of appends from a start.
-pub record AppendsClaim (buffer : List ℕ) (mark : Bookmark) (sofar : Reading) (requests : List Request) (outcome : Outcome) : Type 0 where
-  pub blocks : List Block
-  -- which requests are accepted, one after the other
-  pub each-accepted-exactly-if-allowed : Judged (length buffer) sofar requests (outcome .answers) blocks
-  -- what stood below the first bookmark is followed by the images of the accepted blocks
-  pub bytes-below : written outcome ≡ take (mark .offset) buffer ++ images blocks
-  -- nothing from the last bookmark on has changed
-  pub rest-as-it-was : drop (outcome .mark .offset) (outcome .buffer) ≡ drop (outcome .mark .offset) buffer
-  -- the last bookmark says that no table is due exactly if the header and blocks now are a reading, which lacks no table
-  pub due-says : (outcome .mark .due ≡ false) ↔ Keeps (extended sofar blocks)
-  -- unless a table is still due, this is a volume that ends at the last bookmark
-  pub accepted-volume : Keeps (extended sofar blocks) → AcceptedVolume (written outcome) (extended sofar blocks) (outcome .mark)
-  -- what could be read before is still read
-  pub earlier-blocks :
-      (at : Bookmark) (found : Found)
-      → readAnswer (take (mark .offset) buffer) at ≡ ReadAnswer.Found found
-      → StillRead (take (mark .offset) buffer) (written outcome) at found
+  -- a reading written afresh: its header, and then its blocks by one append each. The first append gets the bookmark that the header
+  -- writer returns (`header-accepted` below)
+  abbrev pub writtenAfresh : (buffer : List ℕ) → Reading → Outcome
+  writtenAfresh buffer reading =
+      appends (library .headerBuffer buffer (reading .header)) (firstMark (reading .header .sequence)) (map requestFor (reading .blocks))
 
--- Demand 3: the first holds of every volume of at most 16,777,216 bytes, the second of every start and every list of appends. The
--- third makes "its block" of a request one block.
-pub record Demand3 : Type 0 where
-  pub volumes : (volume : List ℕ) → Bytes volume → length volume ≤ 16777216 → VolumeClaim volume
-  pub lists-of-appends :
-      (buffer : List ℕ) (mark : Bookmark) (sofar : Reading) (requests : List Request)
-      → Bytes buffer
-      → All Sized requests
-      → Start buffer mark sofar
-      → AppendsClaim buffer mark sofar requests (appends buffer mark requests)
-  pub one-block-asked-for :
-      (request : Request) (a b : Block)
-      → requestFor a ≡ request
-      → BlockRules a
-      → requestFor b ≡ request
-      → BlockRules b
-      → a ≡ b
+  -- Writing a volume afresh.
+
+  -- What is claimed of writing a volume afresh in a buffer.
+  pub record FreshClaim (volume : List ℕ) (reading : Reading) (buffer : List ℕ) : Type 0 where
+    -- no call refuses
+    pub header-accepted : library .writeHeader (length buffer) (reading .header) ≡ Next (firstMark (reading .header .sequence))
+    pub each-append-accepted : All IsNext (writtenAfresh buffer reading .answers)
+    -- what stands below the last bookmark is the volume, and nothing else has changed
+    pub same-bytes : written (writtenAfresh buffer reading) ≡ volume
+    pub rest-as-it-was : drop (length volume) (writtenAfresh buffer reading .buffer) ≡ drop (length volume) buffer
+
+  -- What is claimed of a volume: acceptance, its one reading, the reader, and writing it afresh with room enough.
+  pub record VolumeClaim (volume : List ℕ) : Type 0 where
+    pub reading : ReadingClaim library volume
+    pub afresh : (reading : Reading) (buffer : List ℕ) → ReadingOf volume reading → length volume ≤ length buffer
+        → FreshClaim volume reading buffer
+
+  -- Appending.
+
+  -- Where appending starts, with the header and blocks that stand there. Either the buffer begins with an accepted volume and the
+  -- bookmark is its end bookmark, or the header writer has returned the bookmark and left the buffer.
+  pub data Start (buffer : List ℕ) (mark : Bookmark) : Reading → Type 0 where
+    from-volume :
+        (volume spare : List ℕ) (reading : Reading)
+        → volume ++ spare ≡ buffer
+        → IsAccepted library volume
+        → ReaderGives library volume reading mark
+        → Start buffer mark reading
+    from-header :
+        (before : List ℕ) (header : Header)
+        → SizedHeader header
+        → library .writeHeader (length before) header ≡ Next mark
+        → library .headerBuffer before header ≡ buffer
+        → Start buffer mark (record { header = header; blocks = [] })
+
+  -- Both the reader and the check take the bytes for a volume with this reading and this end bookmark.
+  pub record AcceptedVolume (volume : List ℕ) (reading : Reading) (end : Bookmark) : Type 0 where
+    pub is-reading : ReadingOf volume reading
+    pub reader : ReaderGives library volume reading end
+    pub check :
+        library .check volume ≡ Verdict.Accepted (record { sequence = reading .header .sequence; blocks = length (reading .blocks); end = end })
+
+  -- A block that is read at a bookmark in a volume is read there in the later one too: same fields, same places of its parts, and the
+  -- same bytes in them.
+  pub record StillRead (volume later : List ℕ) (mark : Bookmark) (found : Found) : Type 0 where
+    pub same-place : library .read later mark ≡ ReadAnswer.Found found
+    pub same-reading : shown later (found .block) ≡ shown volume (found .block)
+
+  -- What is claimed of a list of appends from a start.
+  pub record AppendsClaim (buffer : List ℕ) (mark : Bookmark) (sofar : Reading) (requests : List Request) (outcome : Outcome) : Type 0 where
+    pub blocks : List Block
+    -- which requests are accepted, one after the other
+    pub each-accepted-exactly-if-allowed : Judged (length buffer) sofar requests (outcome .answers) blocks
+    -- what stood below the first bookmark is followed by the images of the accepted blocks
+    pub bytes-below : written outcome ≡ take (mark .offset) buffer ++ images blocks
+    -- nothing from the last bookmark on has changed
+    pub rest-as-it-was : drop (outcome .mark .offset) (outcome .buffer) ≡ drop (outcome .mark .offset) buffer
+    -- the last bookmark says whether a table is due
+    pub due-says : (outcome .mark .due ≡ false) ↔ NoTableDue (extended sofar blocks)
+    -- unless one is, this is a volume that ends at the last bookmark
+    pub accepted-volume : NoTableDue (extended sofar blocks) → AcceptedVolume (written outcome) (extended sofar blocks) (outcome .mark)
+    -- what could be read before is still read
+    pub earlier-blocks :
+        (at : Bookmark) (found : Found)
+        → library .read (take (mark .offset) buffer) at ≡ ReadAnswer.Found found
+        → StillRead (take (mark .offset) buffer) (written outcome) at found
+
+  -- Demand 3: the first holds of every volume of at most 16,777,216 bytes, the second of every volume, the third of every start and
+  -- every list of appends. The last makes "its block" of a request one block.
+  pub record Demand3 : Type 0 where
+    pub volumes : (volume : List ℕ) → Bytes volume → length volume ≤ 16777216 → VolumeClaim volume
+    pub refused-volumes : RefusedVolumes library
+    pub lists-of-appends :
+        (buffer : List ℕ) (mark : Bookmark) (sofar : Reading) (requests : List Request)
+        → Bytes buffer
+        → All Sized requests
+        → Start buffer mark sofar
+        → AppendsClaim buffer mark sofar requests (appends buffer mark requests)
+    pub one-block-asked-for :
+        (request : Request) (a b : Block)
+        → requestFor a ≡ request
+        → BlockRules a
+        → requestFor b ≡ request
+        → BlockRules b
+        → a ≡ b

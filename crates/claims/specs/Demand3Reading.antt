@@ -1,8 +1,7 @@
 -- Demand 3, what it says on reading: which volumes are accepted, and what the calls on an accepted volume answer.
 --
--- `headerAnswer` is the answer of read_header, `partAnswer` of file_system_id and previous_hash, `readAnswer` of Bookmark::read
--- and `checkAnswer` of check: these calls have the equations in their contracts. `HasReading` and `ReadingOf` are the format's.
--- Proved in proofs/Demand3Reading.antt.
+-- It is a claim about a library, by its calls; `HasReading` and `ReadingOf` are the format's. Proved of ours in
+-- proofs/Demand3Reading.antt.
 use Prim.Native.Nat.{ℕ, _≤_}
 use mathlib.Core.Path.{_≡_}
 use mathlib.Core.Logic.{_↔_}
@@ -12,74 +11,82 @@ use Rattle.number.specs.Number.{Bytes}
 use Rattle.format.specs.Blocks.{Block}
 use Rattle.format.specs.Readings.{Reading, ReadingOf, HasReading}
 use Rattle.block.specs.Shown.{shown}
-use Rattle.volume.specs.Heading.{headerAnswer, partAnswer}
-use Rattle.volume.specs.Reading.{readAnswer}
-use Rattle.volume.specs.Checking.{checkAnswer}
 use Rattle.volume.specs.declared.Bookmark.{Bookmark}
 use Rattle.volume.specs.declared.Found.{Found}
 use Rattle.volume.specs.declared.Refusal.{Refusal}
 use Rattle.volume.specs.declared.Header.{Header as VolumeHeader}
 use Rattle.volume.specs.declared.Accepted.{Accepted}
+use Rattle.volume.specs.declared.Rejected.{Rejected}
 use Rattle.volume.specs.declared.HeaderAnswer.the-variants as HeaderAnswer
 use Rattle.volume.specs.declared.ReadAnswer.the-variants as ReadAnswer
 use Rattle.volume.specs.declared.Verdict.the-variants as Verdict
+use Rattle.claims.specs.Library.{Library}
 
--- The reader is called at a bookmark, and then at each bookmark that it returns, until it answers "end". It hands out these
--- blocks, in this order, and the last bookmark is the one that gets "end".
-pub data Calls (volume : List ℕ) : Bookmark → List Block → Bookmark → Type 0 where
-  ended : {mark : Bookmark} → readAnswer volume mark ≡ ReadAnswer.End → Calls volume mark [] mark
-  handed :
-      {mark end : Bookmark} {found : Found} {blocks : List Block}
-      → readAnswer volume mark ≡ ReadAnswer.Found found
-      → Calls volume (found .next) blocks end
-      → Calls volume mark (shown volume (found .block) ∷ blocks) end
+module _ (library : Library) where
+  -- The reader is called at a bookmark, and then at each bookmark that it returns, until it answers "end". It hands out these
+  -- blocks, in this order, and the last bookmark is the one that gets "end".
+  pub data Calls (volume : List ℕ) : Bookmark → List Block → Bookmark → Type 0 where
+    ended : {mark : Bookmark} → library .read volume mark ≡ ReadAnswer.End → Calls volume mark [] mark
+    handed :
+        {mark end : Bookmark} {found : Found} {blocks : List Block}
+        → library .read volume mark ≡ ReadAnswer.Found found
+        → Calls volume (found .next) blocks end
+        → Calls volume mark (shown volume (found .block) ∷ blocks) end
 
--- The reader is called from the header on until "end", and this is what it gives. `end` is the end bookmark.
-pub record ReaderGives (volume : List ℕ) (reading : Reading) (end : Bookmark) : Type 0 where
-  pub first : Bookmark
-  pub header : headerAnswer volume ≡ HeaderAnswer.Accepted (record { sequence = reading .header .sequence; next = first })
-  pub id : partAnswer volume 18 16 ≡ reading .header .id
-  pub previous : partAnswer volume 44 32 ≡ reading .header .previous
-  pub blocks : Calls volume first (reading .blocks) end
+  -- The reader is called from the header on until "end", and this is what it gives. `end` is the end bookmark.
+  pub record ReaderGives (volume : List ℕ) (reading : Reading) (end : Bookmark) : Type 0 where
+    pub first : Bookmark
+    pub header : library .readHeader volume ≡ HeaderAnswer.Accepted (record { sequence = reading .header .sequence; next = first })
+    pub id : library .fileSystemId volume ≡ reading .header .id
+    pub previous : library .previousHash volume ≡ reading .header .previous
+    pub blocks : Calls volume first (reading .blocks) end
 
--- The reader is called in the same way until it refuses: it hands out these blocks before, and the last bookmark is the one at which it
--- refuses.
-pub data Stops (volume : List ℕ) : Bookmark → List Block → Bookmark → Refusal → Type 0 where
-  stopped : {mark : Bookmark} {refusal : Refusal} → readAnswer volume mark ≡ ReadAnswer.Refused refusal → Stops volume mark [] mark refusal
-  handed-before :
-      {mark at : Bookmark} {found : Found} {blocks : List Block} {refusal : Refusal}
-      → readAnswer volume mark ≡ ReadAnswer.Found found
-      → Stops volume (found .next) blocks at refusal
-      → Stops volume mark (shown volume (found .block) ∷ blocks) at refusal
+  -- The reader is called in the same way until it refuses: it hands out these blocks before, and the last bookmark is the one at which it
+  -- refuses.
+  pub data Stops (volume : List ℕ) : Bookmark → List Block → Bookmark → Refusal → Type 0 where
+    stopped : {mark : Bookmark} {refusal : Refusal} → library .read volume mark ≡ ReadAnswer.Refused refusal → Stops volume mark [] mark refusal
+    handed-before :
+        {mark at : Bookmark} {found : Found} {blocks : List Block} {refusal : Refusal}
+        → library .read volume mark ≡ ReadAnswer.Found found
+        → Stops volume (found .next) blocks at refusal
+        → Stops volume mark (shown volume (found .block) ∷ blocks) at refusal
 
--- The check accepts the volume.
-abbrev pub IsAccepted : (volume : List ℕ) → Type 0
-IsAccepted volume = (answer : Accepted) × (checkAnswer volume ≡ Verdict.Accepted answer)
+  -- The check accepts the volume.
+  abbrev pub IsAccepted : (volume : List ℕ) → Type 0
+  IsAccepted volume = (answer : Accepted) × (library .check volume ≡ Verdict.Accepted answer)
 
--- What is claimed of a volume.
-pub record ReadingClaim (volume : List ℕ) : Type 0 where
-  -- it is accepted if it has a reading, and only then
-  pub accepted-iff-it-has-a-reading : IsAccepted volume ↔ HasReading volume
-  -- no volume has two readings
-  pub one-reading : (a b : Reading) → ReadingOf volume a → ReadingOf volume b → a ≡ b
-  -- the reader gives the reading, block by block, and nothing that is not the reading
-  pub reader-gives-the-reading : (reading : Reading) → ReadingOf volume reading ↔ ((end : Bookmark) × ReaderGives volume reading end)
-  -- the check answers with the reading's sequence number, how many blocks it has, and the end bookmark
-  pub check-answers-for-the-reading :
-      (reading : Reading) (end : Bookmark)
-      → ReaderGives volume reading end
-      → checkAnswer volume ≡ Verdict.Accepted (record { sequence = reading .header .sequence; blocks = length (reading .blocks); end = end })
-  -- where the header is refused, so is the volume, at 0; and where the reader refuses a block, at that block, after the blocks before it
-  pub check-refuses-the-header :
-      (refusal : Refusal)
-      → headerAnswer volume ≡ HeaderAnswer.Refused refusal
-      → checkAnswer volume ≡ Verdict.Refused (record { refusal = refusal; offset = 0; blocks = 0 })
-  pub check-refuses-where-the-reader-does :
-      (header : VolumeHeader) (blocks : List Block) (at : Bookmark) (refusal : Refusal)
-      → headerAnswer volume ≡ HeaderAnswer.Accepted header
-      → Stops volume (header .next) blocks at refusal
-      → checkAnswer volume ≡ Verdict.Refused (record { refusal = refusal; offset = at .offset; blocks = length blocks })
+  -- What is claimed of a volume.
+  pub record ReadingClaim (volume : List ℕ) : Type 0 where
+    -- it is accepted if it has a reading, and only then
+    pub accepted-iff-it-has-a-reading : IsAccepted volume ↔ HasReading volume
+    -- no volume has two readings
+    pub one-reading : (a b : Reading) → ReadingOf volume a → ReadingOf volume b → a ≡ b
+    -- the reader gives the reading, block by block, and nothing that is not the reading
+    pub reader-gives-the-reading : (reading : Reading) → ReadingOf volume reading ↔ ((end : Bookmark) × ReaderGives volume reading end)
+    -- the check answers with the reading's sequence number, how many blocks it has, and the end bookmark
+    pub check-answers-for-the-reading :
+        (reading : Reading) (end : Bookmark)
+        → ReaderGives volume reading end
+        → library .check volume ≡ Verdict.Accepted (record { sequence = reading .header .sequence; blocks = length (reading .blocks); end = end })
 
--- Demand 3 on reading: all of this holds of every volume of at most 16,777,216 bytes.
-abbrev pub Demand3Reading : Type 0
-Demand3Reading = (volume : List ℕ) → Bytes volume → length volume ≤ 16777216 → ReadingClaim volume
+  -- Where the reader is refused, and after which blocks: at the header, which begins at 0, or at a block.
+  pub data RefusedAt (volume : List ℕ) : Rejected → Type 0 where
+    at-the-header :
+        {refusal : Refusal}
+        → library .readHeader volume ≡ HeaderAnswer.Refused refusal
+        → RefusedAt volume (record { refusal = refusal; offset = 0; blocks = 0 })
+    at-a-block :
+        {header : VolumeHeader} {blocks : List Block} {at : Bookmark} {refusal : Refusal}
+        → library .readHeader volume ≡ HeaderAnswer.Accepted header
+        → Stops volume (header .next) blocks at refusal
+        → RefusedAt volume (record { refusal = refusal; offset = at .offset; blocks = length blocks })
+
+  -- What is claimed of every volume, however long: the check refuses it exactly as the reader does, with its number, where it
+  -- does, and counts the blocks that were handed out before.
+  abbrev pub RefusedVolumes : Type 0
+  RefusedVolumes =
+      (volume : List ℕ) (rejected : Rejected) → (library .check volume ≡ Verdict.Refused rejected) ↔ RefusedAt volume rejected
+
+  -- Demand 3 on reading: all of this holds of every volume of at most 16,777,216 bytes.
+  abbrev pub Demand3Reading : Type 0
+  Demand3Reading = (volume : List ℕ) → Bytes volume → length volume ≤ 16777216 → ReadingClaim volume

@@ -1,3 +1,4 @@
+pub mod Library
 pub mod Demand2
 pub mod Demand3Reading
 pub mod Demand3
