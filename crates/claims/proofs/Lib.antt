@@ -11,3 +11,9 @@ pub mod File
 pub mod Ranges
 pub mod Demand2
 pub mod Samples
+pub mod Bytes
+pub mod Tried
+pub mod WrongReaders
+pub mod WrongWriters
+pub mod WrongLookups
+pub mod Wrong

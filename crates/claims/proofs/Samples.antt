@@ -35,6 +35,7 @@ use Rattle.runs.specs.Runs.{label, joins, runsOf, runLengths, runNumbers, range
 use Rattle.runs.proofs.Fill.{numbers-long}
 use Rattle.lookup.specs.Lookup.{lengthsWrong, notFile, isAbsent, someAbsent, isStray, someStray, lookupOrder, lookupFault, positionAnswer}
 use Rattle.lookup.specs.declared.PositionAnswer.the-variants.{PastEnd}
+use Rattle.claims.specs.Demand2.{KeptBy}
 use Rattle.claims.specs.Samples.{EveryRowHolds, Holds, readRefuses, positionIs, runsAre, runsRefuse, File, inode, withFile, afterV, lengths, fileA, fileB, large, empty, touching, overlapping}
 use Rattle.claims.proofs.Ranges.{room-enough, room-too-small}
 
@@ -150,3 +151,37 @@ every-row-holds =
     (row (refl, read-gives touching refl refl refl)
     (row (read-refuses overlapping refl refl 11 refl)
     tt)))))))))))))))))
+
+-- File A keeps position 0, and file B does not keep it; no lookup in either is refused.
+pub a-clear : lookupFault (withFile (fileA 0)) 104 lengths ≡ 0
+unfolding volumeOf images image headerImage headerFields sealed laid leBytes extentList le firstFault anyBelow
+    kindWith bodyLength overCount notText ruleBroken rangesOverlap linkTwice extentAt someBroken isSound someOverlap shareRange
+    lengthsWrong notFile someAbsent isAbsent someStray isStray
+a-clear = clear (fileA 0) refl refl
+
+pub b-clear : lookupFault (withFile fileB) 104 lengths ≡ 0
+unfolding volumeOf images image headerImage headerFields sealed laid leBytes extentList le firstFault anyBelow
+    kindWith bodyLength overCount notText ruleBroken rangesOverlap linkTwice extentAt someBroken isSound someOverlap shareRange
+    lengthsWrong notFile someAbsent isAbsent someStray isStray
+b-clear = clear fileB refl refl
+
+pub a-size : 0 < sizeAt (withFile (fileA 0)) 104
+unfolding volumeOf images image headerImage headerFields sealed laid leBytes extentList le
+a-size = omega arith
+
+pub b-size : 0 < sizeAt (withFile fileB) 104
+unfolding volumeOf images image headerImage headerFields sealed laid leBytes extentList le
+b-size = omega arith
+
+pub a-keeps : KeptBy (withFile (fileA 0)) 104 0 0
+unfolding volumeOf images image headerImage headerFields sealed laid leBytes extentList le bodyLength extentAt
+a-keeps =
+    let one : 0 < 1 = omega arith in
+    let low : 0 ≤ 0 = omega arith in
+    let high : 0 < 3 = omega arith in
+    (one, (low, high))
+
+pub b-keeps-not : (index : ℕ) → KeptBy (withFile fileB) 104 0 index → ⊥
+unfolding volumeOf images image headerImage headerFields sealed laid leBytes extentList le bodyLength extentAt
+b-keeps-not zero kept = let low : 4 ≤ 0 = kept .1 .0 in omega arith
+b-keeps-not (suc index) kept = let one : suc index < 1 = kept .0 in omega arith

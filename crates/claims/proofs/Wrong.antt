@@ -1,0 +1,20 @@
+-- No claim holds of a wrong library. Assumes nothing.
+use Rattle.claims.specs.Wrong.{WrongAreShutOut}
+use Rattle.claims.proofs.WrongReaders.{refuses-all, repeats-first, invents-blocks, invents-blocks-before-faults, hands-out-no-links}
+use Rattle.claims.proofs.WrongWriters.{stores-nothing, always-due}
+use Rattle.claims.proofs.WrongLookups.{holes-only, one-place-only, holes-where-refused}
+
+pub wrong-are-shut-out : WrongAreShutOut
+wrong-are-shut-out =
+    record {
+      refuses-all = refuses-all;
+      holes-only = holes-only;
+      one-place-only = one-place-only;
+      stores-nothing = stores-nothing;
+      repeats-first = repeats-first;
+      invents-blocks = invents-blocks;
+      holes-where-refused = holes-where-refused;
+      invents-blocks-before-faults = invents-blocks-before-faults;
+      hands-out-no-links = hands-out-no-links;
+      always-due = always-due;
+    }

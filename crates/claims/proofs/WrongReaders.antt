@@ -1,0 +1,148 @@
+-- Wrong readers and checks answer for some small volume what the claim does not allow. Where that needs an answer of ours, it comes
+-- from the claim that ours meets. Assumes nothing.
+use Prim.Native.Nat.{ℕ, zero, suc}
+use mathlib.Core.Path.{_≡_, refl, sym, ap, _∙_}
+use mathlib.Core.Option.{Option, some}
+use mathlib.Core.List.{List, [], _∷_}
+use native.Mathlib.Omega.{arith}
+use Rattle.number.specs.Number.{le}
+use Rattle.utf8.specs.Grammar.{empty}
+use Rattle.format.specs.Layout.{All}
+use Rattle.format.specs.Blocks.{Block, Inode, Link, Unlink, Xattr, RemovedXattr, Data, Rename, Table}
+use Rattle.format.specs.Readings.{timeOf}
+use Rattle.checks.specs.Checks.{firstFault}
+use Rattle.links.specs.Links.{linkStart, linksFrom}
+use Rattle.block.specs.Shown.{blockAt, shown}
+use Rattle.block.specs.declared.Block as found
+use Rattle.block.specs.declared.Block.the-variants as kind
+use Rattle.volume.specs.Heading.{refusalOf, headerFault, headerAnswer}
+use Rattle.volume.specs.Reading.{readAnswer}
+use Rattle.volume.specs.declared.Bookmark.{Bookmark}
+use Rattle.volume.specs.declared.Found.{Found}
+use Rattle.volume.specs.declared.HeaderAnswer.the-variants as head
+use Rattle.volume.specs.declared.ReadAnswer.{ReadAnswer}
+use Rattle.volume.specs.declared.ReadAnswer.the-variants as read
+use Rattle.volume.specs.declared.Rejected.{Rejected}
+use Rattle.volume.specs.declared.Verdict.{Verdict}
+use Rattle.volume.specs.declared.Verdict.the-variants as verdict
+use Rattle.volume.proofs.OneCall.{after}
+use Rattle.claims.specs.Library.{ours}
+use Rattle.claims.specs.Demand3Reading.{Calls, ended, handed, RefusedAt, at-the-header, at-a-block}
+use Rattle.claims.specs.Demand3.{accepted, refused, Demand3}
+use Rattle.claims.specs.Samples.{first, payload}
+use Rattle.claims.specs.Wrong.{refusesAll, inventsBlocks, sevenOf, repeatsFirst, firstBlock, inventsBlocksBeforeFaults, sevenBefore, handsOutNoLinks, emptyPart, withoutLength}
+use Rattle.claims.proofs.Demand3.{demand-3-holds}
+use Rattle.claims.proofs.Tried.{bare, first-rules, bare-keeps, of-reading, whole, of-bare, two, two-keeps, two-small, tabled, tabled-header, link-bytes, tabled-keeps, tabled-small}
+
+-- It has a reading, so it may not be refused.
+pub refuses-all : Demand3 refusesAll → ⊥
+refuses-all claim =
+    let accepted = of-bare refusesAll claim .reading .accepted-iff-it-has-a-reading .1 (bare, whole bare bare-keeps) in
+    let e = accepted .1 in
+    let z : _≡_ {A = ℕ} 0 1 = cc in
+    omega arith
+
+-- It has no blocks, and not seven.
+pub invents-blocks : Demand3 inventsBlocks → ⊥
+invents-blocks claim =
+    let gives = of-bare ours demand-3-holds .reading .reader-gives-the-reading bare .0 (whole bare bare-keeps) in
+    let right = of-bare ours demand-3-holds .reading .check-answers-for-the-reading bare (gives .0) (gives .1) in
+    let bent = of-bare inventsBlocks claim .reading .reader-gives-the-reading bare .0 (whole bare bare-keeps) in
+    let wrong = of-bare inventsBlocks claim .reading .check-answers-for-the-reading bare (bent .0) (bent .1) in
+    let both = sym (ap sevenOf right) ∙ wrong in
+    let e : _≡_ {A = ℕ} 7 0 = ap blocks both in
+    omega arith
+  where
+    blocks : Verdict → ℕ
+    blocks (verdict.Accepted a) = a .blocks
+    blocks (verdict.Refused r) = r .blocks
+
+-- An empty volume is refused at its header, after no block.
+no-header : headerAnswer [] ≡ head.Refused (refusalOf 2)
+unfolding headerAnswer headerFault firstFault
+no-header = refl
+
+not-seven : (rejected : Rejected) → RefusedAt inventsBlocksBeforeFaults [] rejected → rejected .blocks ≡ 7 → ⊥
+not-seven rejected (at-the-header e) seven = omega arith
+not-seven rejected (at-a-block e stops) seven =
+    let f = no-header in
+    let z : _≡_ {A = ℕ} 0 1 = cc in
+    omega arith
+
+pub invents-blocks-before-faults : Demand3 inventsBlocksBeforeFaults → ⊥
+invents-blocks-before-faults claim =
+    let right : ours .check [] ≡ verdict.Refused (record { refusal = refusalOf 2; offset = 0; blocks = 0 })
+    = demand-3-holds .refused-volumes [] _ .1 (at-the-header no-header) in
+    not-seven _ (claim .refused-volumes [] _ .0 (ap sevenBefore right)) refl
+
+-- Of two data blocks with two times, a reader that gives the first again gives one time twice.
+same-block : (volume : List ℕ) (found : Found) (a : ReadAnswer) → firstBlock volume a ≡ read.Found found → found .block ≡ blockAt volume 80
+same-block volume found (read.Found other) e =
+    let s : record { block = blockAt volume 80; next = other .next } ≡ found = cc in
+    ap (λ (f : Found). f .block) (sym s)
+same-block volume found read.End e = let z : _≡_ {A = ℕ} 0 1 = cc in absurd (omega arith)
+same-block volume found (read.Refused refusal) e = let z : _≡_ {A = ℕ} 0 1 = cc in absurd (omega arith)
+
+all-the-first : {volume : List ℕ} {mark end : Bookmark} {blocks : List Block} → Calls repeatsFirst volume mark blocks end
+    → All (λ block. block ≡ shown volume (blockAt volume 80)) blocks
+all-the-first (ended e) = tt
+all-the-first {volume} {mark} (handed {found = found} e calls) =
+    (ap (shown volume) (same-block volume found (readAnswer volume mark) e), all-the-first calls)
+
+pub repeats-first : Demand3 repeatsFirst → ⊥
+repeats-first claim =
+    let gives = of-reading repeatsFirst two claim first-rules ((λ i. omega arith), ((λ i. omega arith), tt)) two-small
+    .reading .reader-gives-the-reading two .0 (whole two two-keeps) in
+    let same = all-the-first (gives .1 .blocks) in
+    let times : _≡_ {A = Option ℕ} (some 1) (some 2) = ap timeOf (same .0 ∙ sym (same .1 .0)) in
+    let z : _≡_ {A = ℕ} 1 2 = cc in
+    omega arith
+
+-- the child of a table's first link
+firstChild : Block → ℕ
+firstChild (Table (link ∷ links)) = link .child
+firstChild (Table []) = 0
+firstChild (Inode number time mode uid gid atime mtime ctime btime size rest) = 0
+firstChild (Link time child parent name) = 0
+firstChild (Unlink time child parent name) = 0
+firstChild (Xattr time number name value) = 0
+firstChild (RemovedXattr time number name) = 0
+firstChild (Data time payload) = 0
+firstChild (Rename time old new) = 0
+
+no-child : (volume : List ℕ) (b : found.Block) → firstChild (shown volume (emptyPart b)) ≡ 0
+unfolding shown linksFrom linkStart le firstChild
+no-child volume (kind.Inode b) = refl
+no-child volume (kind.Link b) = refl
+no-child volume (kind.Unlink b) = refl
+no-child volume (kind.Xattr b) = refl
+no-child volume (kind.RemovedXattr b) = refl
+no-child volume (kind.Data b) = refl
+no-child volume (kind.Rename b) = refl
+no-child volume (kind.Table b) = none (b .count)
+  where
+    none : (count : ℕ) → firstChild (Table (linksFrom [] 0 count)) ≡ 0
+    none zero = refl
+    none (suc count) = refl
+
+no-children : (volume : List ℕ) (found : Found) (a : ReadAnswer) → withoutLength a ≡ read.Found found
+    → firstChild (shown volume (found .block)) ≡ 0
+no-children volume found (read.Found other) e =
+    let s : record { block = emptyPart (other .block); next = other .next } ≡ found = cc in
+    rw (← ap (λ (f : Found). f .block) s) (no-child volume (other .block))
+no-children volume found read.End e = let z : _≡_ {A = ℕ} 0 1 = cc in absurd (omega arith)
+no-children volume found (read.Refused refusal) e = let z : _≡_ {A = ℕ} 0 1 = cc in absurd (omega arith)
+
+all-childless : {volume : List ℕ} {mark end : Bookmark} {blocks : List Block} → Calls handsOutNoLinks volume mark blocks end
+    → All (λ block. firstChild block ≡ 0) blocks
+all-childless (ended e) = tt
+all-childless {volume} {mark} (handed {found = found} e calls) =
+    (no-children volume found (readAnswer volume mark) e, all-childless calls)
+
+pub hands-out-no-links : Demand3 handsOutNoLinks → ⊥
+unfolding firstChild
+hands-out-no-links claim =
+    let gives = of-reading handsOutNoLinks tabled claim tabled-header (link-bytes, tt) tabled-small
+    .reading .reader-gives-the-reading tabled .0 (whole tabled tabled-keeps) in
+    let none : _≡_ {A = ℕ} 2 0 = all-childless (gives .1 .blocks) .0 in
+    omega arith

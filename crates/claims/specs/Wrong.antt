@@ -1,0 +1,172 @@
+-- Libraries that are wrong, each in one way, and that a claim is false of. The first are the empty programs that a claim has to shut
+-- out: they answer, but nothing comes of it. The others are right wherever a claim used to look, and wrong beside it.
+--
+-- What a wrong library answers is what ours does, but for the calls named. Proved in proofs/Wrong.antt.
+use Prim.Native.Nat.{ℕ}
+use mathlib.Core.Bool.{true}
+use mathlib.Core.List.{List, []}
+use Rattle.format.specs.Headers.{Header}
+use Rattle.block.specs.Shown.{blockAt}
+use Rattle.block.specs.declared.Block.{Block}
+use Rattle.block.specs.declared.Block.the-variants as block
+use Rattle.request.specs.Requests.{Request}
+use Rattle.volume.specs.Heading.{refusalOf}
+use Rattle.volume.specs.declared.Bookmark.{Bookmark}
+use Rattle.volume.specs.declared.HeaderAnswer.the-variants as head
+use Rattle.volume.specs.declared.ReadAnswer.{ReadAnswer}
+use Rattle.volume.specs.declared.ReadAnswer.the-variants as read
+use Rattle.volume.specs.declared.Verdict.{Verdict}
+use Rattle.volume.specs.declared.Verdict.the-variants as verdict
+use Rattle.volume.specs.declared.WriteAnswer.{WriteAnswer}
+use Rattle.volume.specs.declared.WriteAnswer.the-variants as write
+use Rattle.lookup.specs.declared.PositionAnswer.{PositionAnswer}
+use Rattle.lookup.specs.declared.PositionAnswer.the-variants as place
+use Rattle.lookup.specs.declared.RunsAnswer.the-variants as runs
+use Rattle.claims.specs.Library.{Library, ours}
+use Rattle.claims.specs.Demand2.{Demand2}
+use Rattle.claims.specs.Demand3.{Demand3}
+
+-- ours, but for these calls
+abbrev pub answering :
+    (read : List ℕ → Bookmark → ReadAnswer)
+    (check : List ℕ → Verdict)
+    (headerBuffer : List ℕ → Header → List ℕ)
+    (append : ℕ → Bookmark → Request → WriteAnswer)
+    (appendBuffer : List ℕ → Bookmark → Request → List ℕ)
+    (position : List ℕ → ℕ → List ℕ → ℕ → PositionAnswer)
+    → Library
+answering read check headerBuffer append appendBuffer position =
+    record {
+      readHeader = ours .readHeader;
+      fileSystemId = ours .fileSystemId;
+      previousHash = ours .previousHash;
+      read = read;
+      check = check;
+      writeHeader = ours .writeHeader;
+      headerBuffer = headerBuffer;
+      append = append;
+      appendBuffer = appendBuffer;
+      position = position;
+      runs = ours .runs;
+      runsList = ours .runsList;
+    }
+
+abbrev pub reading : (List ℕ → Bookmark → ReadAnswer) → Library
+reading read = answering read (ours .check) (ours .headerBuffer) (ours .append) (ours .appendBuffer) (ours .position)
+
+abbrev pub checking : (List ℕ → Verdict) → Library
+checking check = answering (ours .read) check (ours .headerBuffer) (ours .append) (ours .appendBuffer) (ours .position)
+
+abbrev pub looking : (List ℕ → ℕ → List ℕ → ℕ → PositionAnswer) → Library
+looking position = answering (ours .read) (ours .check) (ours .headerBuffer) (ours .append) (ours .appendBuffer) position
+
+-- The empty programs.
+
+-- one refuses everything
+abbrev pub refusesAll : Library
+refusesAll =
+    record {
+      readHeader = λ volume. head.Refused (refusalOf 2);
+      fileSystemId = λ volume. [];
+      previousHash = λ volume. [];
+      read = λ volume mark. read.Refused (refusalOf 2);
+      check = λ volume. verdict.Refused (record { refusal = refusalOf 2; offset = 0; blocks = 0 });
+      writeHeader = λ room header. write.Refused (refusalOf 17);
+      headerBuffer = λ buffer header. buffer;
+      append = λ room mark request. write.Refused (refusalOf 17);
+      appendBuffer = λ buffer mark request. buffer;
+      position = λ volume offset lengths position. place.Refused (refusalOf 9);
+      runs = λ volume offset lengths from to room. runs.Refused (refusalOf 9);
+      runsList = λ volume offset lengths from to out. out;
+    }
+
+-- one answers every lookup "hole", one with a fixed place
+abbrev pub holesOnly : Library
+holesOnly = looking (λ volume offset lengths position. place.Hole)
+
+abbrev pub onePlaceOnly : Library
+onePlaceOnly = looking (λ volume offset lengths position. place.Stored (record { volume = 0; offset = record { 0 = 97 } }))
+
+-- a writer that stores nothing
+abbrev pub storesNothing : Library
+storesNothing =
+    answering (ours .read) (ours .check) (λ buffer header. buffer) (ours .append) (λ buffer mark request. buffer) (ours .position)
+
+-- a reader that is right in the first block and repeats it for the rest
+abbrev pub firstBlock : (volume : List ℕ) → ReadAnswer → ReadAnswer
+firstBlock volume (read.Found found) = read.Found (record { block = blockAt volume 80; next = found .next })
+firstBlock volume read.End = read.End
+firstBlock volume (read.Refused refusal) = read.Refused refusal
+
+abbrev pub repeatsFirst : Library
+repeatsFirst = reading (λ volume mark. firstBlock volume (ours .read volume mark))
+
+-- a check that invents its number of blocks
+abbrev pub sevenOf : Verdict → Verdict
+sevenOf (verdict.Accepted a) = verdict.Accepted (record { sequence = a .sequence; blocks = 7; end = a .end })
+sevenOf (verdict.Refused r) = verdict.Refused r
+
+abbrev pub inventsBlocks : Library
+inventsBlocks = checking (λ volume. sevenOf (ours .check volume))
+
+-- Wrong beside what is read.
+
+-- a hole wherever a lookup is to be refused
+abbrev pub holeFor : PositionAnswer → PositionAnswer
+holeFor place.Hole = place.Hole
+holeFor place.PastEnd = place.PastEnd
+holeFor (place.Stored stored) = place.Stored stored
+holeFor (place.Refused refusal) = place.Hole
+
+abbrev pub holesWhereRefused : Library
+holesWhereRefused = looking (λ volume offset lengths position. holeFor (ours .position volume offset lengths position))
+
+-- seven blocks before every fault
+abbrev pub sevenBefore : Verdict → Verdict
+sevenBefore (verdict.Accepted a) = verdict.Accepted a
+sevenBefore (verdict.Refused r) = verdict.Refused (record { refusal = r .refusal; offset = r .offset; blocks = 7 })
+
+abbrev pub inventsBlocksBeforeFaults : Library
+inventsBlocksBeforeFaults = checking (λ volume. sevenBefore (ours .check volume))
+
+-- a table's part that has no length
+abbrev pub emptyPart : Block → Block
+emptyPart (block.Inode b) = block.Inode b
+emptyPart (block.Link b) = block.Link b
+emptyPart (block.Unlink b) = block.Unlink b
+emptyPart (block.Xattr b) = block.Xattr b
+emptyPart (block.RemovedXattr b) = block.RemovedXattr b
+emptyPart (block.Data b) = block.Data b
+emptyPart (block.Rename b) = block.Rename b
+emptyPart (block.Table b) = block.Table (record { count = b .count; links = record { offset = b .links .offset; len = 0 } })
+
+abbrev pub withoutLength : ReadAnswer → ReadAnswer
+withoutLength (read.Found found) = read.Found (record { block = emptyPart (found .block); next = found .next })
+withoutLength read.End = read.End
+withoutLength (read.Refused refusal) = read.Refused refusal
+
+abbrev pub handsOutNoLinks : Library
+handsOutNoLinks = reading (λ volume mark. withoutLength (ours .read volume mark))
+
+-- bookmarks that say after every append that a table is due
+abbrev pub dueAfter : WriteAnswer → WriteAnswer
+dueAfter (write.Next mark) = write.Next (record { offset = mark .offset; due = true; last = mark .last })
+dueAfter (write.Refused refusal) = write.Refused refusal
+
+abbrev pub alwaysDue : Library
+alwaysDue =
+    answering (ours .read) (ours .check) (ours .headerBuffer) (λ room mark request. dueAfter (ours .append room mark request))
+    (ours .appendBuffer) (ours .position)
+
+-- No claim holds of them.
+pub record WrongAreShutOut : Type 0 where
+  pub refuses-all : Demand3 refusesAll → ⊥
+  pub holes-only : Demand2 holesOnly → ⊥
+  pub one-place-only : Demand2 onePlaceOnly → ⊥
+  pub stores-nothing : Demand3 storesNothing → ⊥
+  pub repeats-first : Demand3 repeatsFirst → ⊥
+  pub invents-blocks : Demand3 inventsBlocks → ⊥
+  pub holes-where-refused : Demand2 holesWhereRefused → ⊥
+  pub invents-blocks-before-faults : Demand3 inventsBlocksBeforeFaults → ⊥
+  pub hands-out-no-links : Demand3 handsOutNoLinks → ⊥
+  pub always-due : Demand3 alwaysDue → ⊥
