@@ -21,7 +21,7 @@ use numbers::OUT_OF_PLACE;
 use numbers::TOO_LARGE;
 use numbers::VOLUME_LIMIT;
 ghost use mathlib.Core.Path.{_≡_};
-ghost use Prim.Native.Nat.{_≤_, _<_};
+ghost use Prim.Native.Nat.{_+_, _≤_, _<_};
 ghost use lib.ListN.{length};
 ghost use Rattle.checks.specs.Checks.{firstFault};
 ghost use Rattle.block.specs.Fields.{kindWith, kindAt};
@@ -178,7 +178,7 @@ pub fn decode(volume: &[u8], offset: usize) -> Decoded
 
 // Internal: whether the four bytes at `end` are not the CRC of the bytes from `offset` to `end`.
 pub fn sum_wrong(volume: &[u8], offset: usize, end: usize) -> bool
-    requires { ⌜ (offset ≤ end) × (end ≤ length (now volume)) ⌝ }
+    requires { ⌜ (offset ≤ end) × (end + 4 ≤ length (now volume)) ⌝ }
     ensures { λ r. ⌜ r ≡ sumWrong (now (volume .entry)) offset end ⌝ }
 {
     number::read_u32(volume, end) != crc32::crc32(&volume[offset..end])
