@@ -2,5 +2,6 @@ pub mod Digits
 pub mod Pieces
 pub mod Steps
 pub mod Room
+pub mod BlockLine
 pub mod Walk
 pub mod Verdict

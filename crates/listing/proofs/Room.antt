@@ -18,9 +18,9 @@ use Rattle.volume.specs.Reading.{readOrder, readFault, nextMark}
 use Rattle.volume.specs.declared.Bookmark.{Bookmark}
 use Rattle.volume.specs.declared.ReadAnswer.{ReadAnswer}
 use Rattle.volume.proofs.Whole.{header-length}
-use Rattle.volume.proofs.Steps.{Answers, ends, finds, refuses, answers, sound-further}
+use Rattle.volume.proofs.Steps.{foundAt, Answers, ends, finds, refuses, answers, sound-further}
 use Rattle.listing.specs.Decimal.{decimal}
-use Rattle.listing.specs.Listing.{blockLine, endLine, refusedLine, lineOf, lines, linesFrom, afterHeading, listLimit, listing, listAnswer}
+use Rattle.listing.specs.Listing.{blockLine, endLine, refusedLine, foundLine, lineOf, lines, linesFrom, afterHeading, listLimit, listing, listAnswer}
 use Rattle.listing.specs.declared.ListAnswer.the-variants.{Written}
 use Rattle.listing.proofs.Digits.{decimal-short}
 
@@ -90,11 +90,10 @@ line-short volume mark blocks onward l h b rest (ends p) =
     omega (arith, end-line-short (mark .offset) blocks (omega arith) (omega arith))
 line-short volume mark blocks onward l h b rest (finds p f) =
     let next : ℕ = nextMark volume mark .offset in
-    let id : ℕ = idAt volume (mark .offset) in
     let further = sound-further volume mark f in
     let least : 13 ≤ next - mark .offset = omega (arith, before-least (kindAt volume (mark .offset))) in
-    let line : length (blockLine (mark .offset) id (next - mark .offset)) ≤ next - mark .offset
-    = block-line-short (mark .offset) id (next - mark .offset) (omega arith) (sound-id volume mark f) least (omega arith) in
+    let line : length (foundLine volume mark (foundAt volume mark)) ≤ next - mark .offset
+    = block-line-short _ _ _ (omega arith) (sound-id volume mark f) least (omega arith) in
     simp length-append (omega (arith, rest f))
 line-short volume mark blocks onward l h b rest (refuses p f) =
     omega (arith, refused-line-short (readFault volume mark) (mark .offset) (omega (arith, read-fault-most volume mark)) (omega arith))

@@ -1,16 +1,15 @@
 -- The lines from a bookmark on are what one reading adds, and then the lines from the next bookmark on: the count of `lines`
 -- never runs out. Assumes nothing.
-use Prim.Native.Nat.{ℕ, zero, suc, _+_, _-_, _<_}
+use Prim.Native.Nat.{ℕ, zero, suc, _+_, _<_}
 use mathlib.Core.Path.{_≡_, refl, ap, _∙_}
 use mathlib.Core.List.{List, _++_}
 use native.Mathlib.Omega.{arith}
 use lib.ListN.{length}
-use Rattle.block.specs.Fields.{idAt}
 use Rattle.volume.specs.Reading.{readFault, nextMark, readAnswer}
 use Rattle.volume.specs.declared.Bookmark.{Bookmark}
 use Rattle.volume.specs.declared.ReadAnswer.{ReadAnswer}
-use Rattle.volume.proofs.Steps.{Answers, ends, finds, refuses, answers, sound-further}
-use Rattle.listing.specs.Listing.{blockLine, lineOf, lines, linesFrom}
+use Rattle.volume.proofs.Steps.{foundAt, Answers, ends, finds, refuses, answers, sound-further}
+use Rattle.listing.specs.Listing.{foundLine, lineOf, lines, linesFrom}
 
 -- what a reading adds depends on the bookmark after this one alone
 line-same : (volume : List ℕ) (mark : Bookmark) (blocks : ℕ) (onward other : Bookmark → List ℕ)
@@ -19,7 +18,7 @@ line-same : (volume : List ℕ) (mark : Bookmark) (blocks : ℕ) (onward other :
 unfolding lineOf
 line-same volume mark blocks onward other same (ends p) = refl
 line-same volume mark blocks onward other same (finds p f) =
-    ap (λ (s : List ℕ). blockLine (mark .offset) (idAt volume (mark .offset)) (nextMark volume mark .offset - mark .offset) ++ s) (same f)
+    ap (λ (s : List ℕ). foundLine volume mark (foundAt volume mark) ++ s) (same f)
 line-same volume mark blocks onward other same (refuses p f) = refl
 
 -- how far the count goes does not matter, if it reaches past the end of the volume

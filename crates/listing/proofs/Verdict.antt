@@ -1,11 +1,10 @@
 -- The text ends as the whole-volume check does: its last line has the check's number of blocks, or its refusal. Assumes nothing.
-use Prim.Native.Nat.{ℕ, zero, suc, _+_, _-_, _≤_, _<_}
+use Prim.Native.Nat.{ℕ, zero, suc, _+_, _≤_, _<_}
 use mathlib.Core.Path.{_≡_, refl, sym, ap, _∙_}
 use mathlib.Core.List.{List, [], _++_, append-assoc}
 use native.Mathlib.Omega.{arith}
 use lib.ListN.{length}
 use borrow.Author.Tests.{le-ltb}
-use Rattle.block.specs.Fields.{idAt}
 use Rattle.volume.specs.Heading.{headerAnswer}
 use Rattle.volume.specs.Reading.{readFault, nextMark}
 use Rattle.volume.specs.Checking.{judge, scan, checkFrom, afterHeader, checkAnswer}
@@ -15,8 +14,8 @@ use Rattle.volume.specs.declared.HeaderAnswer.the-variants.{Accepted as Sound, 
 use Rattle.volume.specs.declared.ReadAnswer.{ReadAnswer}
 use Rattle.volume.specs.declared.Verdict.{Verdict}
 use Rattle.volume.specs.declared.Verdict.the-variants.{Accepted, Refused}
-use Rattle.volume.proofs.Steps.{Answers, ends, finds, refuses, answers, sound-further}
-use Rattle.listing.specs.Listing.{headingLine, blockLine, endLine, refusedLine, lineOf, lines, linesFrom, afterHeading, listLimit, listing}
+use Rattle.volume.proofs.Steps.{foundAt, Answers, ends, finds, refuses, answers, sound-further}
+use Rattle.listing.specs.Listing.{headingLine, foundLine, endLine, refusedLine, lineOf, lines, linesFrom, afterHeading, listLimit, listing}
 
 -- the last line of a verdict
 abbrev pub lastOf : Verdict → List ℕ
@@ -38,7 +37,7 @@ line-ends : (volume : List ℕ) (sequence : ℕ) (mark : Bookmark) (blocks : ℕ
 unfolding lineOf judge
 line-ends volume sequence mark blocks onward verdict rest (ends p) = record { front = []; joined = refl }
 line-ends volume sequence mark blocks onward verdict rest (finds p f) =
-    more-front (blockLine (mark .offset) (idAt volume (mark .offset)) (nextMark volume mark .offset - mark .offset)) (rest f)
+    more-front (foundLine volume mark (foundAt volume mark)) (rest f)
 line-ends volume sequence mark blocks onward verdict rest (refuses p f) = record { front = []; joined = refl }
 
 lines-end : (fuel : ℕ) (volume : List ℕ) (sequence : ℕ) (mark : Bookmark) (blocks : ℕ)

@@ -1,18 +1,17 @@
 -- The walk over the blocks: at each bookmark, whoever writes the lines from there on has written all of them. Assumes nothing.
-use Prim.Native.Nat.{ℕ, suc, _+_, _-_, _≤_}
+use Prim.Native.Nat.{ℕ, suc, _+_, _≤_}
 use mathlib.Core.Path.{_≡_}
 use mathlib.Core.List.{List}
 use native.Mathlib.Numerals.{add-one}
 use native.Mathlib.Omega.{arith}
 use lib.ListN.{length, length-append}
-use Rattle.block.specs.Fields.{idAt}
 use Rattle.volume.specs.Reading.{readAnswer}
 use Rattle.volume.specs.declared.Bookmark.{Bookmark}
 use Rattle.volume.specs.declared.Found.{Found}
 use Rattle.volume.specs.declared.ReadAnswer.{ReadAnswer}
 use Rattle.volume.specs.declared.ReadAnswer.the-variants.{Found as Block}
 use Rattle.volume.proofs.Steps.{read-further}
-use Rattle.listing.specs.Listing.{blockLine, lineOf, linesFrom, listLimit}
+use Rattle.listing.specs.Listing.{foundLine, lineOf, linesFrom, listLimit}
 use Rattle.listing.specs.Writing.{Wrote}
 use Rattle.listing.proofs.Pieces.{then}
 use Rattle.listing.proofs.Steps.{lines-step}
@@ -42,13 +41,12 @@ module _ {volume old : List ℕ} {at : ℕ} {first : Bookmark} {out : List ℕ} 
 
   -- the line of the block at a bookmark, and then the next bookmark
   pub line-fits : Reached volume old at first out mark blocks place → (found : Found) → readAnswer volume mark ≡ Block found
-      → place + length (blockLine (mark .offset) (idAt volume (mark .offset)) (found .next .offset - mark .offset)) ≤ listLimit
+      → place + length (foundLine volume mark found) ≤ listLimit
   unfolding lineOf
   line-fits r found e = omega (arith, simp length-append at (left-fits r e))
 
   pub passed : Reached volume old at first out mark blocks place → (found : Found) → readAnswer volume mark ≡ Block found
-      → {new : List ℕ} {next : ℕ}
-      → Wrote out place (blockLine (mark .offset) (idAt volume (mark .offset)) (found .next .offset - mark .offset)) new next
+      → {new : List ℕ} {next : ℕ} → Wrote out place (foundLine volume mark found) new next
       → Reached volume old at first new (found .next) (blocks + 1) next
   unfolding lineOf
   passed r found e {new} {next} w =

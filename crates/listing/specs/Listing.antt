@@ -8,6 +8,7 @@ use Rattle.block.specs.Fields.{idAt}
 use Rattle.volume.specs.Heading.{refusalOf, headerAnswer}
 use Rattle.volume.specs.Reading.{readAnswer}
 use Rattle.volume.specs.declared.Bookmark.{Bookmark}
+use Rattle.volume.specs.declared.Found.{Found as Handed}
 use Rattle.volume.specs.declared.HeaderAnswer.{HeaderAnswer}
 use Rattle.volume.specs.declared.HeaderAnswer.the-variants.{Accepted as Sound, Refused as Unsound}
 use Rattle.volume.specs.declared.ReadAnswer.{ReadAnswer}
@@ -50,11 +51,14 @@ endLine offset blocks = endWord ++ (decimal offset ++ (blocksWord ++ (decimal bl
 unfoldable pub refusedLine : (number offset : ℕ) → List ℕ
 refusedLine number offset = refusedWord ++ (decimal number ++ (atWord ++ (decimal offset ++ newline)))
 
+-- the line of the block that is handed out at a bookmark. The block ends where the next bookmark stands
+abbrev pub foundLine : (volume : List ℕ) → Bookmark → Handed → List ℕ
+foundLine volume mark found = blockLine (mark .offset) (idAt volume (mark .offset)) (found .next .offset - mark .offset)
+
 -- what one reading at a bookmark adds, after so many blocks
 unfoldable pub lineOf : (volume : List ℕ) → Bookmark → (blocks : ℕ) → (onward : Bookmark → List ℕ) → ReadAnswer → List ℕ
 lineOf volume mark blocks onward End = endLine (mark .offset) blocks
-lineOf volume mark blocks onward (Found found) =
-    blockLine (mark .offset) (idAt volume (mark .offset)) (found .next .offset - mark .offset) ++ onward (found .next)
+lineOf volume mark blocks onward (Found found) = foundLine volume mark found ++ onward (found .next)
 lineOf volume mark blocks onward (Unread why) = refusedLine (why .number) (mark .offset)
 
 -- block after block. The first number counts down and is never used up: each block takes at least one byte
