@@ -10,6 +10,7 @@ pub mod Demand3
 pub mod File
 pub mod Ranges
 pub mod Demand2
+pub mod Listed
 pub mod Samples
 pub mod Bytes
 pub mod Tried

@@ -2,5 +2,6 @@ pub mod Library
 pub mod Demand2
 pub mod Demand3Reading
 pub mod Demand3
+pub mod Listed
 pub mod Samples
 pub mod Wrong
