@@ -17,4 +17,5 @@ pub mod Tried
 pub mod WrongReaders
 pub mod WrongWriters
 pub mod WrongLookups
+pub mod WrongListing
 pub mod Wrong

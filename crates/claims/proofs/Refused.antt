@@ -28,16 +28,16 @@ use Rattle.claims.specs.Demand3Reading.{Calls, ended, handed, Stops, sto
 use Rattle.claims.proofs.Reader.{check-complete, check-stops}
 
 -- how the calls from a bookmark on come out
-record Ended (volume : List ℕ) (mark : Bookmark) : Type 0 where
-  blocks : List Block
-  end : Bookmark
-  calls : Calls ours volume mark blocks end
+pub record Ended (volume : List ℕ) (mark : Bookmark) : Type 0 where
+  pub blocks : List Block
+  pub end : Bookmark
+  pub calls : Calls ours volume mark blocks end
 
-record Stopped (volume : List ℕ) (mark : Bookmark) : Type 0 where
-  blocks : List Block
-  at : Bookmark
-  refusal : Refusal
-  calls : Stops ours volume mark blocks at refusal
+pub record Stopped (volume : List ℕ) (mark : Bookmark) : Type 0 where
+  pub blocks : List Block
+  pub at : Bookmark
+  pub refusal : Refusal
+  pub calls : Stops ours volume mark blocks at refusal
 
 one-more : (volume : List ℕ) (mark : Bookmark) (found : Found) → readAnswer volume mark ≡ read.Found found
     → Ended volume (found .next) ⊎ Stopped volume (found .next) → Ended volume mark ⊎ Stopped volume mark
@@ -62,7 +62,7 @@ one-call volume mark (read.Refused refusal) e later = inr (record { blocks = [];
 one-call volume mark (read.Found found) e later = one-more volume mark found e (later found e)
 
 -- the first number is how many calls are enough
-ends-or-stops : (count : ℕ) (volume : List ℕ) (mark : Bookmark) → length volume < count + mark .offset → 0 < count
+pub ends-or-stops : (count : ℕ) (volume : List ℕ) (mark : Bookmark) → length volume < count + mark .offset → 0 < count
     → Ended volume mark ⊎ Stopped volume mark
 ends-or-stops zero volume mark enough some = absurd (omega arith)
 ends-or-stops (suc count) volume mark enough some =

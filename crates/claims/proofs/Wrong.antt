@@ -2,6 +2,7 @@
 use Rattle.claims.specs.Wrong.{WrongAreShutOut}
 use Rattle.claims.proofs.WrongReaders.{refuses-all, repeats-first, invents-blocks, invents-blocks-before-faults, hands-out-no-links}
 use Rattle.claims.proofs.WrongWriters.{stores-nothing, always-due}
+use Rattle.claims.proofs.WrongListing.{invents-listed-blocks}
 use Rattle.claims.proofs.WrongLookups.{holes-only, one-place-only, holes-where-refused}
 
 pub wrong-are-shut-out : WrongAreShutOut
@@ -13,6 +14,7 @@ wrong-are-shut-out =
       stores-nothing = stores-nothing;
       repeats-first = repeats-first;
       invents-blocks = invents-blocks;
+      invents-listed-blocks = invents-listed-blocks;
       holes-where-refused = holes-where-refused;
       invents-blocks-before-faults = invents-blocks-before-faults;
       hands-out-no-links = hands-out-no-links;

@@ -5,6 +5,7 @@
 -- libraries of which the claims are false.
 use Prim.Native.Nat.{ℕ}
 use mathlib.Core.List.{List}
+use Rattle.number.specs.Number.{put}
 use Rattle.format.specs.Headers.{Header}
 use Rattle.request.specs.Requests.{Request}
 use Rattle.volume.specs.Heading.{headerAnswer, partAnswer}
@@ -19,6 +20,8 @@ use Rattle.volume.specs.declared.WriteAnswer.{WriteAnswer}
 use Rattle.lookup.specs.Lookup as lookup
 use Rattle.lookup.specs.declared.PositionAnswer.{PositionAnswer}
 use Rattle.lookup.specs.declared.RunsAnswer.{RunsAnswer}
+use Rattle.listing.specs.Listing.{listing, listAnswer}
+use Rattle.listing.specs.declared.ListAnswer.{ListAnswer}
 
 pub record Library : Type 0 where
   -- read_header, file_system_id, previous_hash, Bookmark::read, check
@@ -37,6 +40,9 @@ pub record Library : Type 0 where
   pub position : (volume : List ℕ) (offset : ℕ) (lengths : List ℕ) (position : ℕ) → PositionAnswer
   pub runs : (volume : List ℕ) (offset : ℕ) (lengths : List ℕ) (from to room : ℕ) → RunsAnswer
   pub runsList : (volume : List ℕ) (offset : ℕ) (lengths : List ℕ) (from to : ℕ) (out : List ℕ) → List ℕ
+  -- list, with a room of so many bytes, and the room after it
+  pub list : (room : ℕ) (volume : List ℕ) → ListAnswer
+  pub listRoom : (out volume : List ℕ) → List ℕ
 
 abbrev pub ours : Library
 ours =
@@ -53,4 +59,6 @@ ours =
       position = lookup.positionAnswer;
       runs = lookup.runsAnswer;
       runsList = lookup.runsRoom;
+      list = listAnswer;
+      listRoom = λ out volume. put out 0 (listing volume);
     }

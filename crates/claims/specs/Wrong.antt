@@ -4,7 +4,9 @@
 -- What a wrong library answers is what ours does, but for the calls named. Proved in proofs/Wrong.antt.
 use Prim.Native.Nat.{ℕ}
 use mathlib.Core.Bool.{true}
-use mathlib.Core.List.{List, []}
+use mathlib.Core.List.{List, [], _++_}
+use lib.ListN.{length}
+use Rattle.number.specs.Number.{put}
 use Rattle.format.specs.Headers.{Header}
 use Rattle.block.specs.Shown.{blockAt}
 use Rattle.block.specs.declared.Block.{Block}
@@ -22,9 +24,12 @@ use Rattle.volume.specs.declared.WriteAnswer.the-variants as write
 use Rattle.lookup.specs.declared.PositionAnswer.{PositionAnswer}
 use Rattle.lookup.specs.declared.PositionAnswer.the-variants as place
 use Rattle.lookup.specs.declared.RunsAnswer.the-variants as runs
+use Rattle.listing.specs.Listing.{headingLine, endLine}
+use Rattle.listing.specs.declared.ListAnswer.the-variants as list
 use Rattle.claims.specs.Library.{Library, ours}
 use Rattle.claims.specs.Demand2.{Demand2}
 use Rattle.claims.specs.Demand3.{Demand3}
+use Rattle.claims.specs.Listed.{Listed}
 
 -- ours, but for these calls
 abbrev pub answering :
@@ -34,8 +39,9 @@ abbrev pub answering :
     (append : ℕ → Bookmark → Request → WriteAnswer)
     (appendBuffer : List ℕ → Bookmark → Request → List ℕ)
     (position : List ℕ → ℕ → List ℕ → ℕ → PositionAnswer)
+    (listRoom : List ℕ → List ℕ → List ℕ)
     → Library
-answering read check headerBuffer append appendBuffer position =
+answering read check headerBuffer append appendBuffer position listRoom =
     record {
       readHeader = ours .readHeader;
       fileSystemId = ours .fileSystemId;
@@ -49,16 +55,21 @@ answering read check headerBuffer append appendBuffer position =
       position = position;
       runs = ours .runs;
       runsList = ours .runsList;
+      list = ours .list;
+      listRoom = listRoom;
     }
 
 abbrev pub reading : (List ℕ → Bookmark → ReadAnswer) → Library
-reading read = answering read (ours .check) (ours .headerBuffer) (ours .append) (ours .appendBuffer) (ours .position)
+reading read =
+    answering read (ours .check) (ours .headerBuffer) (ours .append) (ours .appendBuffer) (ours .position) (ours .listRoom)
 
 abbrev pub checking : (List ℕ → Verdict) → Library
-checking check = answering (ours .read) check (ours .headerBuffer) (ours .append) (ours .appendBuffer) (ours .position)
+checking check =
+    answering (ours .read) check (ours .headerBuffer) (ours .append) (ours .appendBuffer) (ours .position) (ours .listRoom)
 
 abbrev pub looking : (List ℕ → ℕ → List ℕ → ℕ → PositionAnswer) → Library
-looking position = answering (ours .read) (ours .check) (ours .headerBuffer) (ours .append) (ours .appendBuffer) position
+looking position =
+    answering (ours .read) (ours .check) (ours .headerBuffer) (ours .append) (ours .appendBuffer) position (ours .listRoom)
 
 -- The empty programs.
 
@@ -78,6 +89,8 @@ refusesAll =
       position = λ volume offset lengths position. place.Refused (refusalOf 9);
       runs = λ volume offset lengths from to room. runs.Refused (refusalOf 9);
       runsList = λ volume offset lengths from to out. out;
+      list = λ room volume. list.Refused (refusalOf 17);
+      listRoom = λ out volume. out;
     }
 
 -- one answers every lookup "hole", one with a fixed place
@@ -91,6 +104,7 @@ onePlaceOnly = looking (λ volume offset lengths position. place.Stored (record 
 abbrev pub storesNothing : Library
 storesNothing =
     answering (ours .read) (ours .check) (λ buffer header. buffer) (ours .append) (λ buffer mark request. buffer) (ours .position)
+    (ours .listRoom)
 
 -- a reader that is right in the first block and repeats it for the rest
 abbrev pub firstBlock : (volume : List ℕ) → ReadAnswer → ReadAnswer
@@ -108,6 +122,12 @@ sevenOf (verdict.Refused r) = verdict.Refused r
 
 abbrev pub inventsBlocks : Library
 inventsBlocks = checking (λ volume. sevenOf (ours .check volume))
+
+-- a listing that does: it says of every volume that it ends after seven blocks
+abbrev pub inventsListedBlocks : Library
+inventsListedBlocks =
+    answering (ours .read) (ours .check) (ours .headerBuffer) (ours .append) (ours .appendBuffer) (ours .position)
+    (λ out volume. put out 0 (headingLine ++ endLine (length volume) 7))
 
 -- Wrong beside what is read.
 
@@ -156,7 +176,7 @@ dueAfter (write.Refused refusal) = write.Refused refusal
 abbrev pub alwaysDue : Library
 alwaysDue =
     answering (ours .read) (ours .check) (ours .headerBuffer) (λ room mark request. dueAfter (ours .append room mark request))
-    (ours .appendBuffer) (ours .position)
+    (ours .appendBuffer) (ours .position) (ours .listRoom)
 
 -- No claim holds of them.
 pub record WrongAreShutOut : Type 0 where
@@ -166,6 +186,7 @@ pub record WrongAreShutOut : Type 0 where
   pub stores-nothing : Demand3 storesNothing → ⊥
   pub repeats-first : Demand3 repeatsFirst → ⊥
   pub invents-blocks : Demand3 inventsBlocks → ⊥
+  pub invents-listed-blocks : Listed inventsListedBlocks → ⊥
   pub holes-where-refused : Demand2 holesWhereRefused → ⊥
   pub invents-blocks-before-faults : Demand3 inventsBlocksBeforeFaults → ⊥
   pub hands-out-no-links : Demand3 handsOutNoLinks → ⊥
