@@ -1,6 +1,8 @@
 // Whether what the extents of a file name is there. Each test of one extent stands in one function, and the scans ask it of
 // every extent of a list.
+use extent::offsets;
 use format::Extent;
+use format::Physical;
 ghost use mathlib.Core.Path.{_≡_};
 ghost use mathlib.Core.Bool.{true, false};
 ghost use Prim.Native.Nat.{_≤_};
@@ -34,8 +36,9 @@ fn is_absent(lengths: &[u8], e: Extent) -> bool
     if (lengths.len() / ENTRY_LEN) as u64 <= e.volume {
         return true;
     }
-    let len = number::read_u64(lengths, ENTRY_LEN * e.volume as usize);
-    len < e.start.0 + extent::footprint_len(e, e.size * e.count)
+    let volume_end = Physical(number::read_u64(lengths, ENTRY_LEN * e.volume as usize));
+    let block_end = offsets::advance(e.start, extent::footprint_len(e, e.size * e.count));
+    offsets::is_before(volume_end, block_end)
 }
 
 // Whether a sound extent keeps a byte of a block of size 0.

@@ -10,23 +10,31 @@ use runs::Counted;
 use runs::Place;
 use volume::refuse;
 ghost use mathlib.Core.Path.{_≡_};
+ghost use lib.Dec.{leb};
 ghost use lib.ListN.{length};
 ghost use Rattle.lookup.specs.Lookup.{positionAnswer, runsAnswer, runsRoom};
+
+// Whether a position lies at the end of a file or beyond it. The size of a file is the position at which it ends.
+fn is_past_end(position: Logical, size: Logical) -> bool
+    ensures { λ r. ⌜ r ≡ leb (size .0) (position .0) ⌝ }
+{
+    size.0 <= position.0
+}
 
 // What stands at a position of the file whose inode block is at `offset`. `lengths` has the lengths of the volumes, 8 bytes
 // each; every extent of the file is checked against them, whatever position is asked.
 pub fn position(volume: &[u8], offset: usize, lengths: &[u8], position: Logical) -> PositionAnswer
     ensures { λ r. ⌜ r ≡ positionAnswer (now (volume .entry)) offset (now (lengths .entry)) (position .0) ⌝ }
 {
-    let at = position.0;
     let fault = lookup_fault(volume, offset, lengths);
     if fault != 0 {
         return PositionAnswer::Refused(refuse(fault));
     }
-    if number::read_u64(volume, offset + 55) <= at {
+    let size = Logical(number::read_u64(volume, offset + 55));
+    if is_past_end(position, size) {
         return PositionAnswer::PastEnd;
     }
-    let place = runs::locate(list_of(volume, offset), Logical(at));
+    let place = runs::locate(list_of(volume, offset), position);
     match place {
         Place::Hole => PositionAnswer::Hole,
         Place::Stored(volume, offset) => PositionAnswer::Stored(Stored { volume, offset }),
@@ -48,15 +56,13 @@ pub fn runs(
     ensures room { λ _. ⌜ now (out .exit) ≡ runsRoom (now (volume .entry)) offset (now (lengths .entry)) (from .0) (to .0)
         (now (out .entry)) ⌝ }
 {
-    let start = from.0;
-    let end = to.0;
     let fault = lookup_fault(volume, offset, lengths);
     if fault != 0 {
         return RunsAnswer::Refused(refuse(fault));
     }
-    let size = number::read_u64(volume, offset + 55);
+    let size = Logical(number::read_u64(volume, offset + 55));
     let list = list_of(volume, offset);
-    let counted = runs::range(list, size, Logical(start), Logical(end), out);
+    let counted = runs::range(list, size, from, to, out);
     match counted {
         Counted::Runs(count) => RunsAnswer::Runs(count),
         Counted::RoomTooSmall => RunsAnswer::Refused(refuse(ROOM_TOO_SMALL)),

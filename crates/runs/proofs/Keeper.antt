@@ -13,6 +13,7 @@ use Rattle.format.specs.declared.Physical.{Physical}
 use Rattle.extent.specs.Extents.{extentAt, extentCount, shareRange, someOverlap}
 use Rattle.extent.specs.Ranges.{rangeStart, rangeEnd}
 use Rattle.extent.proofs.Share.{position-share}
+use Rattle.extent.proofs.Ranges.{range-kept}
 use Rattle.order.proofs.Cases.{cases}
 use Rattle.runs.specs.declared.Place.the-variants.{Hole, Stored}
 use Rattle.runs.specs.Positions.{keeps, storedAt, keeper}
@@ -22,13 +23,12 @@ use Rattle.runs.proofs.Stored.{keeps-position, position-keeps, not-kept
 -- an extent keeps the positions of its range
 module _ (list : List ℕ) (i position : ℕ) where
   pub in-range : rangeStart list i ≤ position → position < rangeEnd list i → keeps (extentAt list i) position ≡ true
-  unfolding rangeStart rangeEnd
-  in-range l m = position-keeps (extentAt list i) position (l, m)
+  in-range l m = position-keeps (extentAt list i) position (range-kept list i position .1 (l, m))
 
   pub out-of-range : (rangeStart list i ≤ position → position < rangeEnd list i → ⊥)
       → keeps (extentAt list i) position ≡ false
-  unfolding rangeStart rangeEnd
-  out-of-range h = not-kept (extentAt list i) position (λ k. h (k .0) (k .1))
+  out-of-range h =
+      not-kept (extentAt list i) position (λ k. let r = range-kept list i position .0 k in h (r .0) (r .1))
 
   pub range-test : rangeStart list i ≤ position → ltb position (rangeEnd list i) ≡ keeps (extentAt list i) position
   unfolding keeps rangeStart rangeEnd

@@ -3,6 +3,8 @@
 // `locate` says where a position is stored, and `range` stores the runs of a range of positions in a list that the caller
 // lends. Both are internal: the crate lookup calls them once it has checked the extents. A range query costs about as much as
 // sorting the extents, and after that the same for each run, however long the runs are and however many copies a block has.
+use extent::offsets;
+use extent::positions;
 use format::Extent;
 use format::Logical;
 use format::Physical;
@@ -58,11 +60,10 @@ fn is_kept(list: &[u8], index: usize, position: Logical) -> bool
     requires { ⌜ (index < 1024) × (isSound (extentAt (now list) index) ≡ true) ⌝ }
     ensures { λ r. ⌜ r ≡ keeps (extentAt (now (list .entry)) index) (position .0) ⌝ }
 {
-    let at = position.0;
-    if at < extent::start_of(list, index) {
+    if positions::is_before(position, extent::start_of(list, index)) {
         return false;
     }
-    at < extent::end_of(list, index)
+    positions::is_before(position, extent::end_of(list, index))
 }
 
 // Where an extent stores a position that it keeps. The raw byte is taken modulo F for both multiplicities: one of 67 is
@@ -71,9 +72,9 @@ fn stored_at(e: Extent, position: Logical) -> Physical
     requires { ⌜ (isSound e ≡ true) × (keeps e (position .0) ≡ true) ⌝ }
     ensures { λ r. ⌜ r .0 ≡ storedAt e (position .0) ⌝ }
 {
-    let raw = e.pre + (position.0 - e.logical.0);
+    let raw = e.pre + positions::distance(e.logical, position);
     let footprint = extent::footprint_len(e, e.size * e.count);
-    Physical(e.start.0 + raw % footprint)
+    offsets::advance(e.start, raw % footprint)
 }
 
 // Internal: where a position is stored.
@@ -81,13 +82,12 @@ pub fn locate(list: &[u8], position: Logical) -> Place
     requires { ⌜ (someBroken (now list) ≡ false) × (length (now list) ≤ 58368) ⌝ }
     ensures { λ r. ⌜ r ≡ placeOf (now (list .entry)) (position .0) ⌝ }
 {
-    let at = position.0;
     let total = list.len() / EXTENT_LEN;
     let mut index = 0;
     while index < total {
-        if is_kept(list, index, Logical(at)) {
+        if is_kept(list, index, position) {
             let e = extent::extent_at(list, index);
-            let offset = stored_at(e, Logical(at));
+            let offset = stored_at(e, position);
             return Place::Stored(e.volume, offset);
         }
         index += 1;
@@ -100,10 +100,9 @@ fn hole_run(from: Logical, end: Logical) -> Run
     requires { ⌜ from .0 ≤ end .0 ⌝ }
     ensures { λ r. ⌜ r ≡ holeRun (from .0) (end .0) ⌝ }
 {
-    let start = from.0;
     Run {
-        start: Logical(start),
-        len: end.0 - start,
+        start: from,
+        len: positions::distance(from, end),
         kind: HOLE,
         volume: 0,
         offset: Physical(0),
@@ -119,15 +118,17 @@ fn stored_run(list: &[u8], index: usize, from: Logical, to: Logical) -> Run
     requires { ⌜ from .0 < to .0 ⌝ }
     ensures { λ r. ⌜ r ≡ storedRun (extentAt (now (list .entry)) index) (from .0) (to .0) ⌝ }
 {
-    let start = from.0;
     let e = extent::extent_at(list, index);
-    let offset = stored_at(e, Logical(start));
-    let block_end = e.start.0 + extent::footprint_len(e, e.size * e.count);
+    let offset = stored_at(e, from);
+    let block_end = offsets::advance(e.start, extent::footprint_len(e, e.size * e.count));
     let kept_end = extent::end_of(list, index);
-    let left = smaller(block_end - offset.0, kept_end - start);
+    let left = smaller(
+        offsets::distance(offset, block_end),
+        positions::distance(from, kept_end),
+    );
     Run {
-        start: Logical(start),
-        len: smaller(left, to.0 - start),
+        start: from,
+        len: smaller(left, positions::distance(from, to)),
         kind: STORED,
         volume: e.volume,
         offset,
@@ -144,12 +145,12 @@ fn sort_ids(list: &[u8], ids: &mut [u32]) -> usize
     let mut index = 0;
     while index < total {
         let start = extent::start_of(list, index);
-        if start == extent::end_of(list, index) {
-            index += 1;
-        } else {
+        if positions::is_before(start, extent::end_of(list, index)) {
             let place = extent::place_of(list, ids, count, start);
             order::insert(ids, count, place, index as u32);
             count += 1;
+            index += 1;
+        } else {
             index += 1;
         }
     }
@@ -161,10 +162,9 @@ fn first_place(list: &[u8], ids: &[u32], position: Logical) -> usize
     requires { ⌜ InOrder (now list) (now ids) ⌝ }
     ensures { λ r. ⌜ Next (now (list .entry)) (now (ids .entry)) (position .0) r ⌝ }
 {
-    let at = position.0;
-    let place = extent::place_of(list, ids, ids.len(), at);
+    let place = extent::place_of(list, ids, ids.len(), position);
     if 0 < place {
-        if at < extent::end_of(list, ids[place - 1] as usize) {
+        if positions::is_before(position, extent::end_of(list, ids[place - 1] as usize)) {
             return place - 1;
         }
     }
@@ -177,12 +177,13 @@ fn next_place(list: &[u8], ids: &[u32], position: Logical, place: usize) -> usiz
     requires { ⌜ Reached (now list) (now ids) (position .0) place ⌝ }
     ensures { λ r. ⌜ Next (now (list .entry)) (now (ids .entry)) (position .0) r ⌝ }
 {
-    if place < ids.len() {
-        if extent::end_of(list, ids[place] as usize) <= position.0 {
-            return place + 1;
-        }
+    if ids.len() <= place {
+        return place;
     }
-    place
+    if positions::is_before(position, extent::end_of(list, ids[place] as usize)) {
+        return place;
+    }
+    place + 1
 }
 
 // The first run of a range that is not empty, given the place of the first extent that ends after its start.
@@ -193,17 +194,15 @@ fn run_at(list: &[u8], ids: &[u32], place: usize, from: Logical, to: Logical) ->
     ensures first { λ r. ⌜ FirstRun (now (list .entry)) (from .0) (to .0) r ⌝ }
     ensures reached { λ r. ⌜ Reached (now (list .entry)) (now (ids .entry)) (from .0 + r .len) place ⌝ }
 {
-    let at = from.0;
-    let end = to.0;
     if ids.len() <= place {
-        return hole_run(Logical(at), Logical(end));
+        return hole_run(from, to);
     }
     let index = ids[place] as usize;
     let start = extent::start_of(list, index);
-    if at < start {
-        return hole_run(Logical(at), Logical(smaller(start, end)));
+    if positions::is_before(from, start) {
+        return hole_run(from, positions::earlier(start, to));
     }
-    stored_run(list, index, Logical(at), Logical(end))
+    stored_run(list, index, from, to)
 }
 
 // How many runs a range has, or one more than `most` where there are more than that.
@@ -213,17 +212,16 @@ fn count_runs(list: &[u8], ids: &[u32], first: usize, from: Logical, to: Logical
     requires { ⌜ most < top ⌝ }
     ensures { λ r. ⌜ r ≡ min (length (runLengths (now (list .entry)) (from .0) (to .0))) (most + 1) ⌝ }
 {
-    let end = to.0;
-    let mut at = from.0;
+    let mut at = from;
     let mut place = first;
     let mut runs: u64 = 0;
-    while at < end {
+    while positions::is_before(at, to) {
         if runs == most {
             return most + 1;
         }
-        let run = run_at(list, ids, place, Logical(at), Logical(end));
-        at += run.len;
-        place = next_place(list, ids, Logical(at), place);
+        let run = run_at(list, ids, place, at, to);
+        at = positions::advance(at, run.len);
+        place = next_place(list, ids, at, place);
         runs += 1;
     }
     runs
@@ -248,37 +246,35 @@ fn fill_runs(list: &[u8], ids: &[u32], first: usize, from: Logical, to: Logical,
     requires { ⌜ 5 * length (runLengths (now list) (from .0) (to .0)) ≤ length (now out) ⌝ }
     ensures { λ _. ⌜ now (out .exit) ≡ put (now (out .entry)) 0 (numbersFrom (now (list .entry)) (from .0) (to .0)) ⌝ }
 {
-    let end = to.0;
-    let mut at = from.0;
+    let mut at = from;
     let mut place = first;
     let mut used = 0;
-    while at < end {
-        let run = run_at(list, ids, place, Logical(at), Logical(end));
+    while positions::is_before(at, to) {
+        let run = run_at(list, ids, place, at, to);
         put_run(out, used, run);
         used += 5;
-        at += run.len;
-        place = next_place(list, ids, Logical(at), place);
+        at = positions::advance(at, run.len);
+        place = next_place(list, ids, at, place);
     }
 }
 
-// Internal: the runs of a range, clipped to the size of the file. The runs are counted before any number is stored, and no
-// further than the room goes.
-pub fn range(list: &[u8], size: u64, from: Logical, to: Logical, out: &mut [u64]) -> Counted
+// Internal: the runs of a range, clipped to the size of the file: the position at which the file ends. The runs are counted
+// before any number is stored, and no further than the room goes.
+pub fn range(list: &[u8], size: Logical, from: Logical, to: Logical, out: &mut [u64]) -> Counted
     requires { ⌜ (someBroken (now list) ≡ false) × ((someOverlap (now list) ≡ false) × (length (now list) ≤ 58368)) ⌝ }
-    ensures answer { λ r. ⌜ r ≡ rangeAnswer (now (list .entry)) size (from .0) (to .0) (length (now (out .entry))) ⌝ }
-    ensures room { λ _. ⌜ now (out .exit) ≡ put (now (out .entry)) 0 (rangeNumbers (now (list .entry)) size (from .0) (to .0)) ⌝ }
+    ensures answer { λ r. ⌜ r ≡ rangeAnswer (now (list .entry)) (size .0) (from .0) (to .0) (length (now (out .entry))) ⌝ }
+    ensures room { λ _. ⌜ now (out .exit) ≡ put (now (out .entry)) 0 (rangeNumbers (now (list .entry)) (size .0) (from .0) (to .0)) ⌝ }
 {
-    let start = from.0;
-    let end = smaller(to.0, size);
+    let end = positions::earlier(to, size);
     let most = (out.len() / 5) as u64;
     let mut array = [0u32; 1024];
     let count = sort_ids(list, &mut array);
     let ids = &array[..count];
-    let place = first_place(list, ids, Logical(start));
-    let runs = count_runs(list, ids, place, Logical(start), Logical(end), most);
+    let place = first_place(list, ids, from);
+    let runs = count_runs(list, ids, place, from, end, most);
     if most < runs {
         return Counted::RoomTooSmall;
     }
-    fill_runs(list, ids, place, Logical(start), Logical(end), out);
+    fill_runs(list, ids, place, from, end, out);
     Counted::Runs(runs)
 }

@@ -17,10 +17,11 @@ use Rattle.runs.proofs.locate.Statement.{statement}
 use Rattle.runs.proofs.locate.Tie as tie
 
 abbrev Inv-loop : tie.InvT-loop
-Inv-loop list at total index₀ index = (index ≤ total) × (firstBelow (λ i. keeps (extentAt list i) at) index ≡ none)
+Inv-loop list position total index₀ index =
+    (index ≤ total) × (firstBelow (λ i. keeps (extentAt list i) (position .0)) index ≡ none)
 
 abbrev μ-loop : tie.MeasureT-loop
-μ-loop list at total index₀ index = total - index
+μ-loop list position total index₀ index = total - index
 
 loop-holds : tie.Need-loop-holds Inv-loop μ-loop
 loop-holds c = (omega arith, first-zero _)

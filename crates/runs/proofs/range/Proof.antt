@@ -9,8 +9,8 @@ use Rattle.runs.proofs.Room.{room-fits, answer-runs, room-filled, answe
 use Rattle.runs.proofs.range.Statement.{statement}
 use Rattle.runs.proofs.range.Tie as tie
 
-smaller-requires : tie.Need-smaller-requires
-smaller-requires c κs = search needs
+earlier-requires : tie.Need-earlier-requires
+earlier-requires c κs = search needs
 
 slice-aggregate-sort-ids : tie.Need-slice-aggregate-sort-ids
 slice-aggregate-sort-ids c = search needs
@@ -33,14 +33,14 @@ count-runs-requires c κs = (c .before .before .before .sort-ids .ensures .1, (c
 returns : tie.Need-returns
 returns c =
     let out = now (c .before .before .before .before .before .before .before .before .before .before .args .out) in
-    let clip = c .before .before .before .before .before .before .before .smaller .ensures in
+    let clip = c .before .before .before .before .before .before .before .earlier .ensures in
     let counted = c .before .count-runs .ensures in
     (answer-small _ _ _ _ _ _ out clip counted (omega arith), room-kept _ _ _ _ _ _ out clip counted (omega arith))
 
 fill-runs-requires : tie.Need-fill-runs-requires
 fill-runs-requires c κs =
     let out = now (c .before .before .before .before .before .before .before .before .before .before .before .args .out) in
-    let clip = c .before .before .before .before .before .before .before .before .smaller .ensures in
+    let clip = c .before .before .before .before .before .before .before .before .earlier .ensures in
     let counted = c .before .before .count-runs .ensures in
     let fits = room-fits _ _ _ _ _ _ out clip counted (omega arith) in
     let place = c .before .before .before in
@@ -54,14 +54,14 @@ returns-2 c =
     let s = c .before .before .before .before .before .before .before .before .before .before .before in
     let out = now (s .before .before .before .args .out) in
     let counted = c .before .before .before .before .before .count-runs .ensures in
-    let answer = answer-runs _ _ _ _ _ _ out (s .smaller .ensures) counted (omega arith) in
-    (answer, room-filled _ _ _ _ _ _ out (s .smaller .ensures) counted (omega arith) _ (c .before .before .fill-runs .ensures))
+    let answer = answer-runs _ _ _ _ _ _ out (s .earlier .ensures) counted (omega arith) in
+    (answer, room-filled _ _ _ _ _ _ out (s .earlier .ensures) counted (omega arith) _ (c .before .before .fill-runs .ensures))
 
 pub range-spec : {M : Type 1} → statement M
 range-spec =
     tie.close
     (tie.spec
-    smaller-requires
+    earlier-requires
     slice-aggregate-sort-ids
     sort-ids-requires
     array-share-prefix-array

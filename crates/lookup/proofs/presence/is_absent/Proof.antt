@@ -1,5 +1,6 @@
 -- The sides of the definition are tested in turn; the rules of a sound extent keep P+F within 64 bits.
 use Prim.Native.Nat.{_<_}
+use mathlib.Core.Path.{_∙_}
 use native.Mathlib.Omega.{arith}
 use borrow.Author.Needs.{needs}
 use borrow.Author.Tests.{lt-ltb, le-ltb, le-leb, lt-leb}
@@ -38,17 +39,23 @@ mul-footprint-len c = omega (arith, bounds (c .before .before .before .before .b
 footprint-len-requires : tie.Need-footprint-len-requires
 footprint-len-requires c κs = search needs
 
-add-result : tie.Need-add-result
-add-result c = omega (arith, bounds (c .before .before .before .before .before .before .before .before .before) .physical)
+advance-requires : tie.Need-advance-requires
+advance-requires c κs = omega (arith, bounds (c .before .before .before .before .before .before .before .before) .physical)
+
+is-before-requires : tie.Need-is-before-requires
+is-before-requires c κs = search needs
 
 returns-3 : tie.Need-returns-3
 unfolding isAbsent
 returns-3 c =
-    rw (
-      lt-ltb 0 _ (kept (c .before .before .before .before .before .before)),
-      lt-leb _ _ (c .before .before .before .before .if2 .left),
-      c .before .before .before .read-u64 .ensures,
-      c .before .footprint-len .ensures,
+    let read = c .before .before .before .before in
+    c .is-before .ensures
+    ∙ rw (
+      lt-ltb 0 _ (kept (read .before .before .before)),
+      lt-leb _ _ (read .before .if2 .left),
+      read .read-u64 .ensures,
+      c .before .advance .ensures,
+      c .before .before .footprint-len .ensures,
     )
 
 pub is-absent-spec : {M : Type 1} → statement M
@@ -62,5 +69,6 @@ is-absent-spec =
     read-u64-requires
     mul-footprint-len
     footprint-len-requires
-    add-result
+    advance-requires
+    is-before-requires
     returns-3)

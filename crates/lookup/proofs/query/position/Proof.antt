@@ -3,6 +3,8 @@ use mathlib.Core.Path.{_≡_, sym, ap, _∙_}
 use native.Mathlib.Omega.{arith}
 use denote.Ref.{now}
 use borrow.Author.Needs.{needs}
+use borrow.Author.Tests.{leb-true, leb-false}
+use Rattle.checks.proofs.Tests.{told}
 use Rattle.lookup.specs.Lookup.{positionAnswer}
 use Rattle.lookup.proofs.Clear.{RegularFile, a-lookup-without-a-fault-is-clear}
 use Rattle.lookup.proofs.Answers.{placed, position-refused, position-past-end, position-placed}
@@ -13,12 +15,13 @@ file : (c : tie.Else1) → let a = c .before .before .before .before .args in Re
 file c = a-lookup-without-a-fault-is-clear _ _ _ (sym (c .before .lookup-fault .ensures) ∙ c .if1 .left) .file
 
 -- what is answered for the place that was found
-answered : (c : tie.After-locate) → let a = c .before .before .before .before .before .before .before .before .args in
+answered : (c : tie.After-locate) → let a = c .before .before .before .before .before .before .before .before .before .args in
     placed (c .locate .result) ≡ positionAnswer (now (a .volume)) (a .offset) (now (a .lengths)) (a .position .0)
 answered c =
-    let f = c .before .before .before .before in
+    let below = c .before .before in
+    let f = below .before .before .before in
     position-placed _ _ _ (f .before .lookup-fault .ensures) (f .if1 .left) _ _
-    (rw (← c .before .before .before .read-u64 .ensures) (c .before .before .if2 .left))
+    (rw (← below .before .before .read-u64 .ensures) (leb-false _ _ (told (below .before .is-past-end .ensures) (below .if2 .left))))
     (c .before .list-of .ensures) (c .locate .ensures)
 
 lookup-fault-requires : tie.Need-lookup-fault-requires
@@ -36,16 +39,20 @@ add-read-u64 c = omega (arith, file c .whole)
 read-u64-requires : tie.Need-read-u64-requires
 read-u64-requires c κs = search needs
 
+is-past-end-requires : tie.Need-is-past-end-requires
+is-past-end-requires c κs = search needs
+
 returns-2 : tie.Need-returns-2
 returns-2 c =
-    position-past-end _ _ _ (c .before .before .before .lookup-fault .ensures) (c .before .before .if1 .left) _
-    (rw (← c .before .read-u64 .ensures) (c .if2 .taken))
+    let f = c .before .before .before in
+    position-past-end _ _ _ (f .before .lookup-fault .ensures) (f .if1 .left) _
+    (rw (← c .before .before .read-u64 .ensures) (leb-true _ _ (told (c .before .is-past-end .ensures) (c .if2 .taken))))
 
 list-of-requires : tie.Need-list-of-requires
-list-of-requires c κs = file (c .before .before) .whole
+list-of-requires c κs = file (c .before .before .before) .whole
 
 locate-requires : tie.Need-locate-requires
-locate-requires c κs = let f = file (c .before .before .before) in rw (c .list-of .ensures) (f .sound, f .few)
+locate-requires c κs = let f = file (c .before .before .before .before) in rw (c .list-of .ensures) (f .sound, f .few)
 
 enum-told : tie.Need-enum-told
 enum-told c = search needs
@@ -70,6 +77,7 @@ position-spec =
     returns
     add-read-u64
     read-u64-requires
+    is-past-end-requires
     returns-2
     list-of-requires
     locate-requires
