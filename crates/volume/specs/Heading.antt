@@ -6,6 +6,7 @@ use lib.Dec.{ltb, eqb}
 use lib.ListN.{length}
 use Rattle.number.specs.Number.{numberAt, part}
 use Rattle.number.specs.Same.{sameBytes}
+use Rattle.number.specs.Address.{Address, addressIn}
 use Rattle.checks.specs.Checks.{Check, check, firstFault}
 use Rattle.format.specs.Headers.{magic, noHash}
 use Rattle.block.specs.Order.{volumeLimit, sumWrong}
@@ -66,3 +67,7 @@ headerAnswer volume =
 -- a part that a sound header hands out; nothing where it is refused
 unfoldable pub partAnswer : (volume : List ℕ) (offset len : ℕ) → List ℕ
 partAnswer volume offset len = cond (eqb (headerFault volume) 0) (part volume offset len) []
+
+-- and where it begins, by where the volume does; the empty part begins at the volume's beginning
+unfoldable pub partAddress : (volume : List ℕ) (whole : Address) (offset : ℕ) → Address
+partAddress volume whole offset = addressIn whole (cond (eqb (headerFault volume) 0) offset 0)

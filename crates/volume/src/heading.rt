@@ -19,7 +19,7 @@ ghost use mathlib.Core.Path.{_≡_};
 ghost use Prim.Native.Nat.{_-_, _≤_};
 ghost use lib.ListN.{length};
 ghost use Rattle.checks.specs.Checks.{firstFault};
-ghost use Rattle.volume.specs.Heading.{hashWrong, fieldOrder, headerFault, firstMark, headerAnswer, partAnswer};
+ghost use Rattle.volume.specs.Heading.{hashWrong, fieldOrder, headerFault, firstMark, headerAnswer, partAnswer, partAddress};
 ghost use Rattle.volume.specs.Writing.{writeFault, writeAnswer, writeBuffer};
 
 // The lengths of a file system ID and of a hash.
@@ -103,7 +103,8 @@ pub fn read_header(volume: &[u8]) -> HeaderAnswer
 // A part of a sound header, as a part of the volume; empty where the header is refused.
 fn handed_out(volume: &[u8], from: usize, to: usize) -> &[u8]
     requires { ⌜ (from ≤ to) × (to ≤ 80) ⌝ }
-    ensures { λ r. ⌜ now r ≡ partAnswer (now (volume .entry)) from (to - from) ⌝ }
+    ensures bytes { λ r. ⌜ now r ≡ partAnswer (now (volume .entry)) from (to - from) ⌝ }
+    ensures address { λ r. ⌜ r .ptr ≡ partAddress (now (volume .entry)) (volume .entry .ptr) from ⌝ }
 {
     if header_fault(volume) != 0 {
         return &volume[0..0];
@@ -113,14 +114,16 @@ fn handed_out(volume: &[u8], from: usize, to: usize) -> &[u8]
 
 // The file system ID, as a part of the volume; empty where the header is refused.
 pub fn file_system_id(volume: &[u8]) -> &[u8]
-    ensures { λ r. ⌜ now r ≡ partAnswer (now (volume .entry)) 18 16 ⌝ }
+    ensures bytes { λ r. ⌜ now r ≡ partAnswer (now (volume .entry)) 18 16 ⌝ }
+    ensures address { λ r. ⌜ r .ptr ≡ partAddress (now (volume .entry)) (volume .entry .ptr) 18 ⌝ }
 {
     handed_out(volume, 18, 34)
 }
 
 // The hash of the previous volume, as a part of the volume; empty where the header is refused.
 pub fn previous_hash(volume: &[u8]) -> &[u8]
-    ensures { λ r. ⌜ now r ≡ partAnswer (now (volume .entry)) 44 32 ⌝ }
+    ensures bytes { λ r. ⌜ now r ≡ partAnswer (now (volume .entry)) 44 32 ⌝ }
+    ensures address { λ r. ⌜ r .ptr ≡ partAddress (now (volume .entry)) (volume .entry .ptr) 44 ⌝ }
 {
     handed_out(volume, 44, 76)
 }

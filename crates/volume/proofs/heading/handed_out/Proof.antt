@@ -1,7 +1,8 @@
 -- The part lies within the header, which is whole where nothing is at fault.
-use mathlib.Core.Path.{sym, _∙_}
+use Prim.Native.Nat.{ℕ}
+use mathlib.Core.Path.{refl, sym, ap, _∙_}
 use borrow.Author.Tests.{eq-eqb, ne-eqb}
-use Rattle.volume.specs.Heading.{partAnswer}
+use Rattle.volume.specs.Heading.{partAnswer, partAddress}
 use Rattle.volume.proofs.Whole.{header-length}
 use native.Mathlib.Omega.{arith}
 use borrow.Author.Needs.{needs}
@@ -21,8 +22,10 @@ part-result-end : tie.Need-part-result-end
 part-result-end c = search needs
 
 returns : tie.Need-returns
-unfolding partAnswer
-returns c = rw (← c .before .before .header-fault .ensures, ne-eqb _ _ (c .before .if1 .taken))
+unfolding partAnswer partAddress
+returns c =
+    rw (← c .before .before .header-fault .ensures, ne-eqb _ _ (c .before .if1 .taken))
+    (refl, ap (λ (n : ℕ). (c .before .before .before .before .args .volume .ptr .0, n)) (omega arith))
 
 sub-result-2 : tie.Need-sub-result-2
 sub-result-2 c = search needs
@@ -34,8 +37,10 @@ part-result-end-2 : tie.Need-part-result-end-2
 part-result-end-2 c = omega (arith, header-length _ (sym (c .before .header-fault .ensures) ∙ c .if1 .left))
 
 returns-2 : tie.Need-returns-2
-unfolding partAnswer
-returns-2 c = rw (← c .before .before .header-fault .ensures, eq-eqb _ _ (c .before .if1 .left))
+unfolding partAnswer partAddress
+returns-2 c =
+    rw (← c .before .before .header-fault .ensures, eq-eqb _ _ (c .before .if1 .left))
+    (refl, ap (λ (n : ℕ). (c .before .before .before .before .args .volume .ptr .0, n)) (omega arith))
 
 pub handed-out-spec : {M : Type 1} → statement M
 handed-out-spec =
