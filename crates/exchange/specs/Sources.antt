@@ -3,17 +3,13 @@ use Prim.Native.Nat.{ℕ}
 use mathlib.Core.Bool.{cond}
 use mathlib.Core.List.{List}
 use lib.Dec.{eqb}
-use Rattle.volume.specs.Heading.{sequenceOf}
-use Rattle.lookup.specs.Fetch.{fetchFault}
+use Rattle.lookup.specs.Fetch.{whichever, fetchFault}
 use Rattle.exchange.specs.declared.SourceNumbers.{SourceNumbers}
 
--- 0: the first volume has the number, 1: the second; where both do, it is the first
-abbrev pub whichHas : (first : List ℕ) (number : ℕ) → ℕ
-whichHas first number = cond (eqb (sequenceOf first) number) 0 1
-
+-- 0: the first volume has the number, 1: the second; on refusal 0
 unfoldable pub sourceOf : (first second : List ℕ) (number offset len : ℕ) → SourceNumbers
 sourceOf first second number offset len =
     record {
       refusal = fetchFault first second number offset len;
-      which = cond (eqb (fetchFault first second number offset len) 0) (whichHas first number) 0;
+      which = cond (eqb (fetchFault first second number offset len) 0) (whichever first second number 0 1 0) 0;
     }

@@ -7,11 +7,13 @@ use Prim.Native.Nat.{ℕ, _+_, _≤_}
 use native.Mathlib.Omega.{arith}
 use lib.Dec.{eqb}
 use lib.ListN.{length}
-use borrow.Author.Tests.{ltb-false, eq-eqb, ne-eqb}
+use borrow.Author.Tests.{ltb-false, eqb-true, eq-eqb, ne-eqb}
+use Rattle.number.specs.Number.{part}
+use Rattle.number.specs.Address.{Address, addressIn}
 use Rattle.checks.specs.Checks.{Check, check, firstFault}
 use Rattle.checks.proofs.Laws.{passed, firstFault-append}
 use Rattle.volume.specs.Heading.{sequenceOf, headerOrder, headerFault}
-use Rattle.lookup.specs.Fetch.{chosen, outOf, fetchOrder, fetchFault}
+use Rattle.lookup.specs.Fetch.{whichever, chosen, outOf, fetchOrder, fetchFault, fetchPart, fetchAddress}
 
 -- the first header decides before the second, and the second before the rest
 pub by-headers : (first second : List ℕ) (others : List Check)
@@ -53,21 +55,64 @@ pub fetch-clear : (first second : List ℕ) (number offset len : ℕ) → fetchF
 unfolding fetchFault
 fetch-clear first second number offset len e = passed 16 (fetchOrder first second number offset len) tt e
 
-pub chosen-first : (first second : List ℕ) (number : ℕ) → sequenceOf first ≡ number → chosen first second number ≡ some first
-unfolding chosen
-chosen-first first second number e = rw (eq-eqb (sequenceOf first) number e)
+-- What belongs to the first volume, where it has the number: also where both do.
+pub of-first : {A : Type 0} (first second : List ℕ) (number : ℕ) (a b c : A) → sequenceOf first ≡ number
+    → whichever first second number a b c ≡ a
+of-first first second number a b c e = rw (eq-eqb (sequenceOf first) number e)
+
+-- What belongs to the second, where it alone has the number.
+pub of-second : {A : Type 0} (first second : List ℕ) (number : ℕ) (a b c : A) → (sequenceOf first ≡ number → ⊥)
+    → sequenceOf second ≡ number → whichever first second number a b c ≡ b
+of-second first second number a b c n e =
+    rw (ne-eqb (sequenceOf first) number n, eq-eqb (sequenceOf second) number e)
 
 -- where the first has another number and nothing is refused, the second has it
-pub chosen-second : (first second : List ℕ) (number offset len : ℕ) → (sequenceOf first ≡ number → ⊥)
-    → outOf offset len (chosen first second number) ≡ false → chosen first second number ≡ some second
+pub second-has : (first second : List ℕ) (number offset len : ℕ) → fetchFault first second number offset len ≡ 0
+    → (sequenceOf first ≡ number → ⊥) → sequenceOf second ≡ number
 unfolding chosen
-chosen-second first second number offset len n e = rw (ne-eqb (sequenceOf first) number n) (go (eqb (sequenceOf second) number) (rw (ne-eqb (sequenceOf first) number n) at e))
+second-has first second number offset len sound n =
+    go (eqb (sequenceOf second) number) refl
+    (rw (ne-eqb (sequenceOf first) number n) at (fetch-clear first second number offset len sound))
   where
-    go : (t : Bool) → outOf offset len (cond t (some second) none) ≡ false → cond t (some second) none ≡ some second
-    go true e = refl
-    go false e = let z : _≡_ {A = ℕ} 0 1 = cc in absurd (omega arith)
+    go : (t : Bool) → eqb (sequenceOf second) number ≡ t → outOf offset len (cond t (some second) none) ≡ false
+        → sequenceOf second ≡ number
+    go true e h = eqb-true (sequenceOf second) number e
+    go false e h = let z : _≡_ {A = ℕ} 0 1 = cc in absurd (omega arith)
 
--- the range lies within a volume that was chosen
-pub within : (chosen : Option (List ℕ)) (volume : List ℕ) (offset len : ℕ) → chosen ≡ some volume → outOf offset len chosen ≡ false
+-- the range lies within the volume that is chosen
+within : (chosen : Option (List ℕ)) (volume : List ℕ) (offset len : ℕ) → chosen ≡ some volume → outOf offset len chosen ≡ false
     → offset + len ≤ length volume
 within chosen volume offset len e h = ltb-false (length volume) (offset + len) (rw e at h)
+
+-- A fetch that is not refused has its range in this volume, which begins at `whole`, and hands out the part there.
+pub record Held (first second : List ℕ) (firstAt secondAt : Address) (number offset len : ℕ) (volume : List ℕ) (whole : Address) : Type 0 where
+  pub fits : offset + len ≤ length volume
+  pub bytes : fetchPart first second number offset len ≡ part volume offset len
+  pub address : fetchAddress first second firstAt secondAt number offset len ≡ addressIn whole offset
+
+module _ (first second : List ℕ) (firstAt secondAt : Address) (number offset len : ℕ)
+    (sound : fetchFault first second number offset len ≡ 0) where
+  held : (volume : List ℕ) (whole : Address) → chosen first second number ≡ some volume
+      → whichever first second number firstAt secondAt firstAt ≡ whole
+      → Held first second firstAt secondAt number offset len volume whole
+  unfolding fetchPart fetchAddress
+  held volume whole v w =
+      let clear = eq-eqb (fetchFault first second number offset len) 0 sound in
+      record {
+        fits = within (chosen first second number) volume offset len v (fetch-clear first second number offset len sound);
+        bytes = rw (clear, v);
+        address = rw (clear, w);
+      }
+
+  pub held-in-first : sequenceOf first ≡ number → Held first second firstAt secondAt number offset len first firstAt
+  unfolding chosen
+  held-in-first e =
+      held first firstAt (of-first first second number (some first) (some second) none e)
+      (of-first first second number firstAt secondAt firstAt e)
+
+  pub held-in-second : (sequenceOf first ≡ number → ⊥) → Held first second firstAt secondAt number offset len second secondAt
+  unfolding chosen
+  held-in-second n =
+      let e = second-has first second number offset len sound n in
+      held second secondAt (of-second first second number (some first) (some second) none n e)
+      (of-second first second number firstAt secondAt firstAt n e)

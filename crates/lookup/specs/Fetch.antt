@@ -6,13 +6,19 @@ use mathlib.Core.List.{List, [], _∷_, _++_}
 use lib.Dec.{ltb, eqb}
 use lib.ListN.{length}
 use Rattle.number.specs.Number.{part}
+use Rattle.number.specs.Address.{Address, addressIn}
 use Rattle.checks.specs.Checks.{Check, check, firstFault}
 use Rattle.volume.specs.Heading.{sequenceOf, headerOrder}
 
+-- Given one thing for each volume: that of whichever volume has the number in its header, the first if both do. Where neither has
+-- it, what is given for that.
+abbrev pub whichever : {A : Type 0} (first second : List ℕ) (number : ℕ) (ofFirst ofSecond ofNeither : A) → A
+whichever first second number ofFirst ofSecond ofNeither =
+    cond (eqb (sequenceOf first) number) ofFirst (cond (eqb (sequenceOf second) number) ofSecond ofNeither)
+
 -- the volume with the number, if one has it
 unfoldable pub chosen : (first second : List ℕ) (number : ℕ) → Option (List ℕ)
-chosen first second number =
-    cond (eqb (sequenceOf first) number) (some first) (cond (eqb (sequenceOf second) number) (some second) none)
+chosen first second number = whichever first second number (some first) (some second) none
 
 -- 16: neither volume has the number, or the range reaches beyond it
 abbrev pub outOf : (offset len : ℕ) → Option (List ℕ) → Bool
@@ -36,3 +42,10 @@ partOf offset len (some volume) = part volume offset len
 unfoldable pub fetchPart : (first second : List ℕ) (number offset len : ℕ) → List ℕ
 fetchPart first second number offset len =
     cond (eqb (fetchFault first second number offset len) 0) (partOf offset len (chosen first second number)) []
+
+-- and where it begins, by where the two volumes do; on refusal at the beginning of the first
+unfoldable pub fetchAddress : (first second : List ℕ) (firstAt secondAt : Address) (number offset len : ℕ) → Address
+fetchAddress first second firstAt secondAt number offset len =
+    cond (eqb (fetchFault first second number offset len) 0)
+    (addressIn (whichever first second number firstAt secondAt firstAt) offset)
+    (addressIn firstAt 0)

@@ -6,22 +6,24 @@ ghost use Prim.Native.Nat.{_+_, _≤_};
 ghost use lib.Dec.{ltb};
 ghost use lib.ListN.{length};
 ghost use Rattle.number.specs.Number.{part};
-ghost use Rattle.lookup.specs.Fetch.{outOf, chosen, fetchFault, fetchPart};
+ghost use Rattle.number.specs.Address.{addressIn};
+ghost use Rattle.lookup.specs.Fetch.{outOf, chosen, fetchFault, fetchPart, fetchAddress};
 
 // Whether `len` bytes from `offset` on reach beyond `end`. The rest is compared and nothing is added: the sum may not fit.
-fn reaches_beyond(end: usize, offset: u64, len: u64) -> bool
-    ensures { λ r. ⌜ r ≡ ltb end (offset + len) ⌝ }
+fn reaches_beyond(end: usize, offset: Physical, len: u64) -> bool
+    ensures { λ r. ⌜ r ≡ ltb end (offset .0 + len) ⌝ }
 {
+    let from = offset.0;
     let left = end as u64;
-    if left < offset {
+    if left < from {
         return true;
     }
-    left - offset < len
+    left - from < len
 }
 
 // Whether neither volume has the number, or the range reaches beyond the one that has it.
-fn is_out_of(first: &[u8], second: &[u8], number: u64, offset: u64, len: u64) -> bool
-    ensures { λ r. ⌜ r ≡ outOf offset len (chosen (now (first .entry)) (now (second .entry)) number) ⌝ }
+fn is_out_of(first: &[u8], second: &[u8], number: u64, offset: Physical, len: u64) -> bool
+    ensures { λ r. ⌜ r ≡ outOf (offset .0) len (chosen (now (first .entry)) (now (second .entry)) number) ⌝ }
 {
     if number::read_u64(first, 36) == number {
         return reaches_beyond(first.len(), offset, len);
@@ -36,7 +38,6 @@ fn is_out_of(first: &[u8], second: &[u8], number: u64, offset: u64, len: u64) ->
 pub fn fetch_refusal(first: &[u8], second: &[u8], number: u64, offset: Physical, len: u64) -> u64
     ensures { λ r. ⌜ r ≡ fetchFault (now (first .entry)) (now (second .entry)) number (offset .0) len ⌝ }
 {
-    let from = offset.0;
     let fault = volume::heading::header_fault(first);
     if fault != 0 {
         return fault;
@@ -45,19 +46,21 @@ pub fn fetch_refusal(first: &[u8], second: &[u8], number: u64, offset: Physical,
     if fault2 != 0 {
         return fault2;
     }
-    if is_out_of(first, second, number, from, len) {
+    if is_out_of(first, second, number, offset, len) {
         return NOT_THERE;
     }
     0
 }
 
 // `len` bytes of a volume from `offset` on.
-fn part_at(volume: &[u8], offset: u64, len: u64) -> &[u8]
-    requires { ⌜ offset + len ≤ length (now volume) ⌝ }
-    ensures { λ r. ⌜ now r ≡ part (now (volume .entry)) offset len ⌝ }
+fn part_at(volume: &[u8], offset: Physical, len: u64) -> &[u8]
+    requires { ⌜ offset .0 + len ≤ length (now volume) ⌝ }
+    ensures bytes { λ r. ⌜ now r ≡ part (now (volume .entry)) (offset .0) len ⌝ }
+    ensures address { λ r. ⌜ r .ptr ≡ addressIn (volume .entry .ptr) (offset .0) ⌝ }
 {
-    let start = offset as usize;
-    let end = (offset + len) as usize;
+    let from = offset.0;
+    let start = from as usize;
+    let end = (from + len) as usize;
     &volume[start..end]
 }
 
@@ -69,14 +72,15 @@ pub fn fetch<'a>(
     offset: Physical,
     len: u64,
 ) -> &'a [u8]
-    ensures { λ r. ⌜ now r ≡ fetchPart (now (first .entry)) (now (second .entry)) number (offset .0) len ⌝ }
+    ensures bytes { λ r. ⌜ now r ≡ fetchPart (now (first .entry)) (now (second .entry)) number (offset .0) len ⌝ }
+    ensures address { λ r. ⌜ r .ptr ≡ fetchAddress (now (first .entry)) (now (second .entry)) (first .entry .ptr) (second .entry .ptr)
+        number (offset .0) len ⌝ }
 {
-    let from = offset.0;
-    if fetch_refusal(first, second, number, Physical(from), len) != 0 {
+    if fetch_refusal(first, second, number, offset, len) != 0 {
         return &first[0..0];
     }
     if number::read_u64(first, 36) == number {
-        return part_at(first, from, len);
+        return part_at(first, offset, len);
     }
-    part_at(second, from, len)
+    part_at(second, offset, len)
 }

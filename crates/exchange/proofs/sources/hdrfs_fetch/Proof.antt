@@ -1,6 +1,8 @@
 -- The refusal decides first; without one, the number in the first header tells which volume has it.
+use mathlib.Core.Path.{sym, _∙_}
 use borrow.Author.Tests.{eq-eqb, ne-eqb}
 use borrow.Author.Needs.{needs}
+use Rattle.lookup.proofs.Fetch.{second-has}
 use Rattle.exchange.specs.Sources.{sourceOf}
 use Rattle.exchange.proofs.sources.hdrfs_fetch.Statement.{statement}
 use Rattle.exchange.proofs.sources.hdrfs_fetch.Tie as tie
@@ -27,7 +29,8 @@ unfolding sourceOf
 returns-3 c =
     let i = c .before .before in
     let none = i .if1 .left in
-    rw (← i .before .fetch-refusal .ensures, eq-eqb _ _ none, ← c .before .read-u64 .ensures, ne-eqb _ _ (c .if2 .left), none)
+    let other = second-has _ _ _ _ _ (sym (i .before .fetch-refusal .ensures) ∙ none) (λ e. c .if2 .left (c .before .read-u64 .ensures ∙ e)) in
+    rw (← i .before .fetch-refusal .ensures, eq-eqb _ _ none, ← c .before .read-u64 .ensures, ne-eqb _ _ (c .if2 .left), eq-eqb _ _ other, none)
 
 pub hdrfs-fetch-spec : {M : Type 1} → statement M
 hdrfs-fetch-spec =

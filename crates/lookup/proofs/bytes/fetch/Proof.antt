@@ -1,14 +1,12 @@
 -- A fetch that is not refused has its range in the volume with the number.
-use mathlib.Core.Path.{_≡_, sym, _∙_}
-use mathlib.Core.Option.{some}
-use Prim.Native.Nat.{ℕ, _+_, _≤_}
+use Prim.Native.Nat.{ℕ}
+use mathlib.Core.Path.{_≡_, refl, sym, ap, _∙_}
 use mathlib.Core.List.{List}
-use lib.ListN.{length}
-use borrow.Author.Tests.{eq-eqb, ne-eqb}
-use Rattle.number.specs.Number.{part}
-use Rattle.volume.specs.Heading.{sequenceOf}
-use Rattle.lookup.specs.Fetch.{chosen, fetchFault, fetchPart}
-use Rattle.lookup.proofs.Fetch.{fetch-clear, chosen-first, chosen-second, within}
+use native.Mathlib.Omega.{arith}
+use borrow.Author.Tests.{ne-eqb}
+use Rattle.number.specs.Address.{Address}
+use Rattle.lookup.specs.Fetch.{fetchFault, fetchPart, fetchAddress}
+use Rattle.lookup.proofs.Fetch.{Held, held-in-first, held-in-second}
 use borrow.Author.Needs.{needs}
 use Rattle.lookup.proofs.bytes.fetch.Statement.{statement}
 use Rattle.lookup.proofs.bytes.fetch.Tie as tie
@@ -26,68 +24,50 @@ part-result-end : tie.Need-part-result-end
 part-result-end c = search needs
 
 returns : tie.Need-returns
-unfolding fetchPart
-returns c = rw (← c .before .before .fetch-refusal .ensures, ne-eqb _ _ (c .before .if1 .taken))
+unfolding fetchPart fetchAddress
+returns c =
+    rw (← c .before .before .fetch-refusal .ensures, ne-eqb _ _ (c .before .if1 .taken))
+    (refl, ap (λ (n : ℕ). (c .before .before .before .before .before .args .first .ptr .0, n)) (omega arith))
 
 read-u64-requires : tie.Need-read-u64-requires
 read-u64-requires c κs = search needs
 
--- the bytes are those of this volume
-record Answered (first second : List ℕ) (number offset len : ℕ) (volume : List ℕ) : Type 0 where
-  fits : offset + len ≤ length volume
-  gives : part volume offset len ≡ fetchPart first second number offset len
+-- The range lies in a lent volume, and the part there is the one to hand out.
+abbrev HeldIn : tie.Start → (volume : List ℕ) (whole : Address) → Type 0
+HeldIn s volume whole =
+    Held (s .args .first .now) (s .args .second .now) (s .args .first .ptr) (s .args .second .ptr) (s .args .number) (s .args .offset .0)
+    (s .args .len) volume whole
 
--- a fetch that is not refused, with the number read from the first header
-module _ (first second : List ℕ) (number offset len fault sequence : ℕ) (told : fault ≡ fetchFault first second number offset len)
-    (clear : fault ≡ 0) (read : sequence ≡ sequenceOf first) where
-  sound : fetchFault first second number offset len ≡ 0
-  sound = sym told ∙ clear
+-- the call, from where the first header's number was read
+abbrev start : tie.After-read-u64 → tie.Start
+start c = c .before .before .before .before .before
 
-  answered : (volume : List ℕ) → chosen first second number ≡ some volume → Answered first second number offset len volume
-  unfolding fetchPart
-  answered volume e =
-      record {
-        fits = within (chosen first second number) volume offset len e (fetch-clear first second number offset len sound);
-        gives = rw (eq-eqb (fetchFault first second number offset len) 0 sound, e);
-      }
+sound : (c : tie.After-read-u64)
+    → fetchFault (start c .args .first .now) (start c .args .second .now) (start c .args .number) (start c .args .offset .0) (start c .args .len)
+    ≡ 0
+sound c = sym (c .before .before .fetch-refusal .ensures) ∙ c .before .if1 .left
 
-  in-first : sequence ≡ number → Answered first second number offset len first
-  in-first e = answered first (chosen-first first second number (sym read ∙ e))
+in-first : (c : tie.Then2) → HeldIn (start (c .before)) (start (c .before) .args .first .now) (start (c .before) .args .first .ptr)
+in-first c = held-in-first _ _ _ _ _ _ _ (sound (c .before)) (sym (c .before .read-u64 .ensures) ∙ c .if2 .taken)
 
-  in-second : (sequence ≡ number → ⊥) → Answered first second number offset len second
-  in-second n =
-      answered second
-      (chosen-second first second number offset len (λ e. n (read ∙ e)) (fetch-clear first second number offset len sound))
+in-second : (c : tie.Else2) → HeldIn (start (c .before)) (start (c .before) .args .second .now) (start (c .before) .args .second .ptr)
+in-second c = held-in-second _ _ _ _ _ _ _ (sound (c .before)) (λ e. c .if2 .left (c .before .read-u64 .ensures ∙ e))
 
 part-at-requires : tie.Need-part-at-requires
-part-at-requires c κs =
-    let i = c .before .before in
-    let a = i .before .before .before .before .args in
-    in-first (a .first .now) (a .second .now) (a .number) (a .offset .0) (a .len) _ _ (i .before .fetch-refusal .ensures) (i .if1 .left)
-    (c .before .read-u64 .ensures) (c .if2 .taken) .fits
+part-at-requires c κs = in-first c .fits
 
 returns-2 : tie.Need-returns-2
 returns-2 c =
-    let i = c .before .before .before in
-    let a = i .before .before .before .before .args in
-    c .part-at .ensures
-    ∙ in-first (a .first .now) (a .second .now) (a .number) (a .offset .0) (a .len) _ _ (i .before .fetch-refusal .ensures) (i .if1 .left)
-    (c .before .before .read-u64 .ensures) (c .before .if2 .taken) .gives
+    let h = in-first (c .before) in
+    (c .part-at .ensures .0 ∙ sym (h .bytes), c .part-at .ensures .1 ∙ sym (h .address))
 
 part-at-requires-2 : tie.Need-part-at-requires-2
-part-at-requires-2 c κs =
-    let i = c .before .before in
-    let a = i .before .before .before .before .args in
-    in-second (a .first .now) (a .second .now) (a .number) (a .offset .0) (a .len) _ _ (i .before .fetch-refusal .ensures) (i .if1 .left)
-    (c .before .read-u64 .ensures) (c .if2 .left) .fits
+part-at-requires-2 c κs = in-second c .fits
 
 returns-3 : tie.Need-returns-3
 returns-3 c =
-    let i = c .before .before .before in
-    let a = i .before .before .before .before .args in
-    c .part-at2 .ensures
-    ∙ in-second (a .first .now) (a .second .now) (a .number) (a .offset .0) (a .len) _ _ (i .before .fetch-refusal .ensures) (i .if1 .left)
-    (c .before .before .read-u64 .ensures) (c .before .if2 .left) .gives
+    let h = in-second (c .before) in
+    (c .part-at2 .ensures .0 ∙ sym (h .bytes), c .part-at2 .ensures .1 ∙ sym (h .address))
 
 pub fetch-spec : {M : Type 1} → statement M
 fetch-spec =

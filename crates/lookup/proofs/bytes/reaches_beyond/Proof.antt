@@ -16,10 +16,10 @@ same end offset len h = go (ltb (end - offset) len) refl
     go false e = sym (le-ltb end (offset + len) (omega (arith, ltb-false (end - offset) len e)))
 
 returns : tie.Need-returns
-returns c = sym (lt-ltb (c .before .args .end) (c .before .args .offset + c .before .args .len) (omega arith))
+returns c = sym (lt-ltb (c .before .args .end) (c .before .args .offset .0 + c .before .args .len) (omega arith))
 
 returns-2 : tie.Need-returns-2
-returns-2 c = same (c .before .args .end) (c .before .args .offset) (c .before .args .len) (omega arith)
+returns-2 c = same (c .before .args .end) (c .before .args .offset .0) (c .before .args .len) (omega arith)
 
 pub reaches-beyond-spec : {M : Type 1} → statement M
 reaches-beyond-spec = tie.close (tie.spec returns returns-2)
