@@ -11,6 +11,7 @@ pub mod File
 pub mod Ranges
 pub mod Demand2
 pub mod Listed
+pub mod Fetching
 pub mod Samples
 pub mod Bytes
 pub mod Tried

@@ -11,7 +11,7 @@ use borrow.Author.Tests.{ltb-false, eqb-true, eq-eqb, ne-eqb}
 use Rattle.number.specs.Number.{part}
 use Rattle.number.specs.Address.{Address, addressIn}
 use Rattle.checks.specs.Checks.{Check, check, firstFault}
-use Rattle.checks.proofs.Laws.{passed, firstFault-append}
+use Rattle.checks.proofs.Laws.{passed, passed-part, firstFault-append}
 use Rattle.volume.specs.Heading.{sequenceOf, headerOrder, headerFault}
 use Rattle.lookup.specs.Fetch.{whichever, chosen, outOf, fetchOrder, fetchFault, fetchPart, fetchAddress}
 
@@ -55,6 +55,13 @@ pub fetch-clear : (first second : List ℕ) (number offset len : ℕ) → fetchF
 unfolding fetchFault
 fetch-clear first second number offset len e = passed 16 (fetchOrder first second number offset len) tt e
 
+-- and both headers are sound
+pub headers-clear : (first second : List ℕ) (number offset len : ℕ) → fetchFault first second number offset len ≡ 0
+    → (headerFault first ≡ 0) × (headerFault second ≡ 0)
+unfolding fetchFault headerFault
+headers-clear first second number offset len e =
+    (passed-part 0 8 (fetchOrder first second number offset len) tt e, passed-part 8 8 (fetchOrder first second number offset len) tt e)
+
 -- What belongs to the first volume, where it has the number: also where both do.
 pub of-first : {A : Type 0} (first second : List ℕ) (number : ℕ) (a b c : A) → sequenceOf first ≡ number
     → whichever first second number a b c ≡ a
@@ -65,6 +72,15 @@ pub of-second : {A : Type 0} (first second : List ℕ) (number : ℕ) (a b c : A
     → sequenceOf second ≡ number → whichever first second number a b c ≡ b
 of-second first second number a b c n e =
     rw (ne-eqb (sequenceOf first) number n, eq-eqb (sequenceOf second) number e)
+
+pub chosen-first : (first second : List ℕ) (number : ℕ) → sequenceOf first ≡ number → chosen first second number ≡ some first
+unfolding chosen
+chosen-first first second number e = of-first first second number (some first) (some second) none e
+
+pub chosen-second : (first second : List ℕ) (number : ℕ) → (sequenceOf first ≡ number → ⊥) → sequenceOf second ≡ number
+    → chosen first second number ≡ some second
+unfolding chosen
+chosen-second first second number n e = of-second first second number (some first) (some second) none n e
 
 -- where the first has another number and nothing is refused, the second has it
 pub second-has : (first second : List ℕ) (number offset len : ℕ) → fetchFault first second number offset len ≡ 0
@@ -105,14 +121,10 @@ module _ (first second : List ℕ) (firstAt secondAt : Address) (number offset l
       }
 
   pub held-in-first : sequenceOf first ≡ number → Held first second firstAt secondAt number offset len first firstAt
-  unfolding chosen
   held-in-first e =
-      held first firstAt (of-first first second number (some first) (some second) none e)
-      (of-first first second number firstAt secondAt firstAt e)
+      held first firstAt (chosen-first first second number e) (of-first first second number firstAt secondAt firstAt e)
 
   pub held-in-second : (sequenceOf first ≡ number → ⊥) → Held first second firstAt secondAt number offset len second secondAt
-  unfolding chosen
   held-in-second n =
       let e = second-has first second number offset len sound n in
-      held second secondAt (of-second first second number (some first) (some second) none n e)
-      (of-second first second number firstAt secondAt firstAt n e)
+      held second secondAt (chosen-second first second number n e) (of-second first second number firstAt secondAt firstAt n e)

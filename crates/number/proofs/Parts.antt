@@ -1,10 +1,10 @@
--- The laws of `part`: its length, two parts in a row, and the part that stands at an offset. Assumes nothing.
+-- The laws of `part`: its length, what it holds, two parts in a row, and the part that stands at an offset. Assumes nothing.
 use Prim.Native.Nat.{ℕ, _+_, _^_, _≤_, _<_}
 use mathlib.Core.Path.{_≡_, sym, ap, _∙_}
 use mathlib.Core.List.{List, _++_}
 use native.Mathlib.Omega.{arith}
-use lib.ListN.{length, take, drop, length-drop, take-append-drop}
-use lib.Seq.{length-take-le, take-add, drop-drop, take-at, drop-at}
+use lib.ListN.{length, take, drop, getD, length-drop, take-append-drop}
+use lib.Seq.{length-take-le, take-add, drop-drop, take-at, drop-at, getD-take, getD-drop, take-append-le, drop-append-le}
 use Rattle.number.specs.Number.{Bytes, le, leBytes, part, numberAt}
 use Rattle.number.proofs.Digits.{bytes-take, bytes-drop, length-leBytes, le-leBytes, leBytes-le}
 
@@ -13,6 +13,17 @@ length-part bytes offset len h = length-take-le len (drop offset bytes) (omega (
 
 pub bytes-part : (bytes : List ℕ) (offset len : ℕ) → Bytes bytes → Bytes (part bytes offset len)
 bytes-part bytes offset len b = bytes-take len (drop offset bytes) (bytes-drop offset bytes b)
+
+-- what a part holds stands in the whole
+pub getD-part : (bytes : List ℕ) (offset len k : ℕ) → k < len → getD (part bytes offset len) k 0 ≡ getD bytes (offset + k) 0
+getD-part bytes offset len k h = getD-take len (drop offset bytes) k 0 h ∙ getD-drop offset bytes k 0
+
+-- a part that ends within the first of two lists
+pub part-append : (bytes after : List ℕ) (offset len : ℕ) → offset + len ≤ length bytes
+    → part (bytes ++ after) offset len ≡ part bytes offset len
+part-append bytes after offset len h =
+    ap (take len) (drop-append-le offset bytes after (omega arith))
+    ∙ take-append-le len (drop offset bytes) after (omega (arith, length-drop offset bytes))
 
 -- a part is two parts in a row
 pub part-add : (bytes : List ℕ) (offset m n : ℕ) → part bytes offset (m + n) ≡ part bytes offset m ++ part bytes (offset + m) n
