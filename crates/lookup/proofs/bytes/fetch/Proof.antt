@@ -2,7 +2,7 @@
 use Prim.Native.Nat.{ℕ}
 use mathlib.Core.Path.{_≡_, refl, sym, ap, _∙_}
 use mathlib.Core.List.{List}
-use native.Mathlib.Omega.{arith}
+use native.Mathlib.Nat.{add-comm}
 use borrow.Author.Tests.{ne-eqb}
 use Rattle.number.specs.Address.{Address}
 use Rattle.lookup.specs.Fetch.{fetchFault, fetchPart, fetchAddress}
@@ -26,8 +26,9 @@ part-result-end c = search needs
 returns : tie.Need-returns
 unfolding fetchPart fetchAddress
 returns c =
+    let whole : Address = c .before .before .before .before .before .args .first .ptr in
     rw (← c .before .before .fetch-refusal .ensures, ne-eqb _ _ (c .before .if1 .taken))
-    (refl, ap (λ (n : ℕ). (c .before .before .before .before .before .args .first .ptr .0, n)) (omega arith))
+    (refl, ap (λ (n : ℕ). (whole .0, n)) (add-comm 0 (whole .1)))
 
 read-u64-requires : tie.Need-read-u64-requires
 read-u64-requires c κs = search needs
