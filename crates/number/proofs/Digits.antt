@@ -105,6 +105,11 @@ bytes-take (suc n) [] h i = h i
 bytes-take (suc n) (b ∷ bytes) h zero = h zero
 bytes-take (suc n) (b ∷ bytes) h (suc i) = bytes-take n bytes (λ k. h (suc k)) i
 
+pub bytes-append : (a b : List ℕ) → Bytes a → Bytes b → Bytes (a ++ b)
+bytes-append [] b h k i = k i
+bytes-append (x ∷ a) b h k zero = h zero
+bytes-append (x ∷ a) b h k (suc i) = bytes-append a b (λ j. h (suc j)) k i
+
 -- a field of i + j bytes is one of i bytes and, above it, one of j, also where the bytes end within it
 pub numberAt-add : (bytes : List ℕ) (at i j : ℕ)
     → numberAt bytes at (i + j) ≡ numberAt bytes at i + 256 ^ i * numberAt bytes (at + i) j

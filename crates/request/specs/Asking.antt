@@ -20,19 +20,31 @@ requestFor (format.Data time payload) = Data time payload
 requestFor (format.Rename time old new) = Rename time old new
 requestFor (format.Table links) = Table (length links) (linkList links)
 
--- the widths of the arguments of the calls: a number is as wide as its field, and a length is that of a slice, so 8 bytes wide
--- even where its field is narrower
-abbrev pub argumentWidths : Kind → List ℕ
-argumentWidths inodeBlock = 8 ∷ 8 ∷ 2 ∷ 2 ∷ 2 ∷ 8 ∷ 8 ∷ 8 ∷ 8 ∷ 8 ∷ 8 ∷ []
-argumentWidths linkBlock = 8 ∷ 8 ∷ 8 ∷ 8 ∷ []
-argumentWidths unlinkBlock = 8 ∷ 8 ∷ 8 ∷ 8 ∷ []
-argumentWidths xattrBlock = 8 ∷ 8 ∷ 8 ∷ 8 ∷ []
-argumentWidths removedXattrBlock = 8 ∷ 8 ∷ 8 ∷ []
-argumentWidths dataBlock = 8 ∷ 8 ∷ []
-argumentWidths renameBlock = 8 ∷ 8 ∷ 8 ∷ []
-argumentWidths linkTable = 8 ∷ []
+-- how many bytes a value of a type has; a length is a `usize`
+abbrev pub u16 : ℕ
+u16 = 2
 
--- what holds of the arguments of every append, by their types
+abbrev pub u64 : ℕ
+u64 = 8
+
+abbrev pub usize : ℕ
+usize = 8
+
+-- the types of the arguments of the calls, in the order of `valuesIn`: a number is as wide as its field, and a length is that of
+-- a slice, also where its field is narrower
+abbrev pub argumentWidths : Kind → List ℕ
+argumentWidths inodeBlock = u64 ∷ u64 ∷ u16 ∷ u16 ∷ u16 ∷ u64 ∷ u64 ∷ u64 ∷ u64 ∷ u64 ∷ usize ∷ []
+argumentWidths linkBlock = u64 ∷ u64 ∷ u64 ∷ usize ∷ []
+argumentWidths unlinkBlock = u64 ∷ u64 ∷ u64 ∷ usize ∷ []
+argumentWidths xattrBlock = u64 ∷ u64 ∷ usize ∷ usize ∷ []
+argumentWidths removedXattrBlock = u64 ∷ u64 ∷ usize ∷ []
+argumentWidths dataBlock = u64 ∷ usize ∷ []
+argumentWidths renameBlock = u64 ∷ usize ∷ usize ∷ []
+argumentWidths linkTable = u64 ∷ []
+
+-- What holds of the arguments of every append, by their types. A claim that assumes it of a request leaves out no call: each
+-- append has it in its contract for its own arguments, refused or not. And it leaves out no block: the request for a block that
+-- keeps the rules is sized (`rules-sized`).
 pub record Sized (request : Request) : Type 0 where
   pub fit : Fit (argumentWidths (kindIn request)) (valuesIn request)
   pub bytes : Bytes (bodyIn request)

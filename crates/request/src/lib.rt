@@ -1,26 +1,28 @@
 // What an append is asked to write, checked by itself: lengths, link bytes, texts, the rules of an inode and of a table.
 //
-// There is no bookmark and no buffer here. Each call answers the first fault, or 0; crate `volume` calls them between the
-// checks of the place and those of time and room. A payload has no checks, and a name alone has those of `name_fault`.
+// There is no bookmark and no buffer here. Each call is handed a request whole, also the numbers that have no check, so that
+// its contract can say two things of it: the answer is its first fault, or 0; and it is sized, whether it is refused or not,
+// which the types of the arguments give. Crate `volume` makes the call between the checks of the place and those of time and
+// room. A data block has no call here, since a payload has no checks.
 use block::numbers::LINK_TWICE;
 use block::numbers::MAX_LINKS;
 use block::numbers::NOT_TEXT;
 use block::numbers::OVER_LIMIT;
 use block::numbers::RULE_BROKEN;
 ghost use mathlib.Core.Path.{_≡_};
-ghost use Prim.Native.Nat.{ℕ};
 ghost use Rattle.checks.specs.Checks.{firstFault};
-ghost use Rattle.request.specs.Requests.{Inode, Xattr, Rename, Table, requestOrder};
+ghost use Rattle.request.specs.Requests.{Inode, Link, Unlink, Xattr, RemovedXattr, Rename, Table, requestOrder};
+ghost use Rattle.request.specs.Asking.{Sized};
 ghost use Rattle.request.specs.Parts.{nameOrder};
 
 // The most bytes of the name of an xattr: its length field is one byte wide.
 const XATTR_NAME_MOST: usize = 255;
 
-// The most bytes of an xattr's value, or of a path: their length fields are two bytes wide.
+// The most bytes of the name in a link or an unlink, of an xattr's value, or of a path: their length fields are two bytes wide.
 const LONG_MOST: usize = 65535;
 
-// Internal: the first fault of a name that is all there is to check, or 0. `most` is the largest value of its length field.
-pub fn name_fault(name: &[u8], most: usize) -> u64
+// The first fault of a name that is all there is to check, or 0. `most` is the largest value of its length field.
+fn name_fault(name: &[u8], most: usize) -> u64
     ensures { λ r. ⌜ r ≡ firstFault (nameOrder most (now (name .entry))) ⌝ }
 {
     if most < name.len() {
@@ -32,10 +34,27 @@ pub fn name_fault(name: &[u8], most: usize) -> u64
     0
 }
 
-// Internal: the first fault of an xattr's name and value, or 0. The value is raw bytes. Both lengths are refused by the same
-// number, so either may be tested first.
-pub fn xattr_fault(name: &[u8], value: &[u8]) -> u64
-    ensures { λ r. ⌜ ((time number : ℕ) → r ≡ firstFault (requestOrder (Xattr time number (now (name .entry)) (now (value .entry))))) ⌝ }
+// Internal: the first fault of a link, or 0.
+pub fn link_fault(time: u64, child: u64, parent: u64, name: &[u8]) -> u64
+    ensures fault { λ r. ⌜ r ≡ firstFault (requestOrder (Link time child parent (now (name .entry)))) ⌝ }
+    ensures sized { λ _. ⌜ Sized (Link time child parent (now (name .entry))) ⌝ }
+{
+    name_fault(name, LONG_MOST)
+}
+
+// Internal: the first fault of an unlink, or 0.
+pub fn unlink_fault(time: u64, child: u64, parent: u64, name: &[u8]) -> u64
+    ensures fault { λ r. ⌜ r ≡ firstFault (requestOrder (Unlink time child parent (now (name .entry)))) ⌝ }
+    ensures sized { λ _. ⌜ Sized (Unlink time child parent (now (name .entry))) ⌝ }
+{
+    name_fault(name, LONG_MOST)
+}
+
+// Internal: the first fault of an xattr, or 0. The value is raw bytes. Both lengths are refused by the same number, so either
+// may be tested first.
+pub fn xattr_fault(time: u64, inode: u64, name: &[u8], value: &[u8]) -> u64
+    ensures fault { λ r. ⌜ r ≡ firstFault (requestOrder (Xattr time inode (now (name .entry)) (now (value .entry)))) ⌝ }
+    ensures sized { λ _. ⌜ Sized (Xattr time inode (now (name .entry)) (now (value .entry))) ⌝ }
 {
     if LONG_MOST < value.len() {
         return OVER_LIMIT;
@@ -43,9 +62,18 @@ pub fn xattr_fault(name: &[u8], value: &[u8]) -> u64
     name_fault(name, XATTR_NAME_MOST)
 }
 
-// Internal: the first fault of the two paths of a rename, or 0. Both lengths come before either text.
-pub fn rename_fault(old: &[u8], new: &[u8]) -> u64
-    ensures { λ r. ⌜ ((time : ℕ) → r ≡ firstFault (requestOrder (Rename time (now (old .entry)) (now (new .entry))))) ⌝ }
+// Internal: the first fault of a removed xattr, or 0.
+pub fn removed_xattr_fault(time: u64, inode: u64, name: &[u8]) -> u64
+    ensures fault { λ r. ⌜ r ≡ firstFault (requestOrder (RemovedXattr time inode (now (name .entry)))) ⌝ }
+    ensures sized { λ _. ⌜ Sized (RemovedXattr time inode (now (name .entry))) ⌝ }
+{
+    name_fault(name, XATTR_NAME_MOST)
+}
+
+// Internal: the first fault of a rename, or 0. The lengths of both paths come before either text.
+pub fn rename_fault(time: u64, old: &[u8], new: &[u8]) -> u64
+    ensures fault { λ r. ⌜ r ≡ firstFault (requestOrder (Rename time (now (old .entry)) (now (new .entry)))) ⌝ }
+    ensures sized { λ _. ⌜ Sized (Rename time (now (old .entry)) (now (new .entry))) ⌝ }
 {
     if LONG_MOST < old.len() {
         return OVER_LIMIT;
@@ -62,11 +90,24 @@ pub fn rename_fault(old: &[u8], new: &[u8]) -> u64
     0
 }
 
-// Internal: the first fault of an inode's size and n bytes, or 0. They go by the file type, and so by the mode; no other field
-// has a rule.
-pub fn inode_fault(mode: u16, size: u64, rest: &[u8]) -> u64
-    ensures { λ r. ⌜ ((number time uid gid atime mtime ctime btime : ℕ)
-        → r ≡ firstFault (requestOrder (Inode number time mode uid gid atime mtime ctime btime size (now (rest .entry))))) ⌝ }
+// Internal: the first fault of an inode, or 0. The rules of its size and its n bytes go by the file type, and so by the mode;
+// no other field has one.
+pub fn inode_fault(
+    inode: u64,
+    time: u64,
+    mode: u16,
+    uid: u16,
+    gid: u16,
+    atime: u64,
+    mtime: u64,
+    ctime: u64,
+    btime: u64,
+    size: u64,
+    rest: &[u8],
+) -> u64
+    ensures fault { λ r. ⌜ r ≡ firstFault (requestOrder
+        (Inode inode time mode uid gid atime mtime ctime btime size (now (rest .entry)))) ⌝ }
+    ensures sized { λ _. ⌜ Sized (Inode inode time mode uid gid atime mtime ctime btime size (now (rest .entry))) ⌝ }
 {
     if block::inode::is_too_long(mode, rest.len() as u64) {
         return OVER_LIMIT;
@@ -74,9 +115,10 @@ pub fn inode_fault(mode: u16, size: u64, rest: &[u8]) -> u64
     block::inode::rest_fault(mode, size, rest)
 }
 
-// Internal: the first fault of a table's links, or 0. The names are looked at only in bytes that are exactly the stated links.
+// Internal: the first fault of a table, or 0. The names are looked at only in bytes that are exactly the stated links.
 pub fn table_fault(count: u64, links: &[u8]) -> u64
-    ensures { λ r. ⌜ r ≡ firstFault (requestOrder (Table count (now (links .entry)))) ⌝ }
+    ensures fault { λ r. ⌜ r ≡ firstFault (requestOrder (Table count (now (links .entry)))) ⌝ }
+    ensures sized { λ _. ⌜ Sized (Table count (now (links .entry))) ⌝ }
 {
     if MAX_LINKS < count {
         return OVER_LIMIT;

@@ -113,6 +113,9 @@ admitted-appended buffer mark request block a =
 
 -- The header.
 
+pub header-sized : (header : Header) → HeaderRules header → SizedHeader header
+header-sized header rules = record { fit = rules .fit; id-bytes = rules .id-bytes; hash-bytes = rules .hash-bytes }
+
 module _ (room : ℕ) (header : Header) where
   pub write-sound : SizedHeader header → writeFault room header ≡ 0 → HeaderRules header × (80 ≤ room)
   unfolding writeFault

@@ -18,10 +18,11 @@ use Rattle.encode.specs.Images.{sizeOf}
 use Rattle.encode.proofs.Lengths.{length-imageOf}
 use Rattle.request.specs.Requests.{Request, Inode, Link, Unlink, Xattr, RemovedXattr, Data, Rename, Table}
 use Rattle.request.specs.Requests.{kindIn, isTable, bodyIn, timeIn, imageIn, overLimit, requestOrder}
+use Rattle.request.specs.Asking.{Sized}
 use Rattle.volume.specs.Heading.{firstMark, refusalOf}
 use Rattle.volume.specs.Reading.{markAfter}
 use Rattle.volume.specs.Writing.{placeOrder, askedOrder, appendOrder, appendFault, appendAnswer, appendBuffer}
-use Rattle.volume.specs.Writing.{writeOrder, writeFault, writeAnswer, writeBuffer}
+use Rattle.volume.specs.Writing.{SizedHeader, writeOrder, writeFault, writeAnswer, writeBuffer}
 use Rattle.volume.specs.declared.Bookmark.{Bookmark}
 use Rattle.volume.specs.declared.Refusal.{Refusal}
 use Rattle.volume.specs.declared.WriteAnswer.the-variants.{Next, Refused}
@@ -40,8 +41,9 @@ length-imageIn (Table count links) = length-imageOf linkTable _ links refl
 
 -- What an append does with its fault.
 
--- the body has this length, and the append's first fault is this one
+-- the arguments are sized, the body has this length, and the append's first fault is this one
 pub record Told (buffer : List ℕ) (mark : Bookmark) (request : Request) (body fault : ℕ) : Type 0 where
+  pub sized : Sized request
   pub long : body ≡ length (bodyIn request)
   pub fault-is : fault ≡ appendFault (length buffer) mark request
 
@@ -58,9 +60,9 @@ by-first-fault before own after asked p q e =
     = turned (eqb asked 0) asked (firstFault after) ∙ rw e (sym (firstFault-append own after q)) in
     firstFault-append before _ p ∙ rw same (sym (firstFault-append before (own ++ after) p))
 
--- what `append_fault` answers, told the first fault of the request itself
+-- what `append_fault` answers, told what the crate `request` says of the request itself
 module _ (buffer : List ℕ) (mark : Bookmark) (request : Request) where
-  pub told : {asked body fault : ℕ} → asked ≡ firstFault (requestOrder request) → body ≡ length (bodyIn request)
+  pub told : {asked body fault : ℕ} → (asked ≡ firstFault (requestOrder request)) × Sized request → body ≡ length (bodyIn request)
       → fault ≡ firstFault (askedOrder (length buffer) mark (isTable request) asked (timeIn request) (sizeOf (kindIn request) + body))
       → Told buffer mark request body fault
   unfolding appendFault
@@ -68,8 +70,9 @@ module _ (buffer : List ℕ) (mark : Bookmark) (request : Request) where
       let n : sizeOf (kindIn request) + body ≡ length (imageIn request)
       = ap (λ (n : ℕ). sizeOf (kindIn request) + n) long ∙ sym (length-imageIn request) in
       record {
+        sized = own .1;
         long = long;
-        fault-is = e ∙ rw n (by-first-fault (placeOrder mark (isTable request)) (requestOrder request) _ asked tt tt own);
+        fault-is = e ∙ rw n (by-first-fault (placeOrder mark (isTable request)) (requestOrder request) _ asked tt tt (own .0));
       }
 
 module _ {buffer : List ℕ} {mark : Bookmark} {request : Request} {body fault : ℕ} (t : Told buffer mark request body fault) where
@@ -87,19 +90,19 @@ module _ {buffer : List ℕ} {mark : Bookmark} {request : Request} {body fault :
 
   -- a refusal leaves the buffer as it was
   pub refused : {refusal : Refusal} → refusal ≡ refusalOf fault → (fault ≡ 0 → ⊥)
-      → (Refused refusal ≡ appendAnswer (length buffer) mark request) × (buffer ≡ appendBuffer buffer mark request)
+      → (Refused refusal ≡ appendAnswer (length buffer) mark request) × ((buffer ≡ appendBuffer buffer mark request) × Sized request)
   unfolding appendAnswer appendBuffer
-  refused e n = (rw (← t .fault-is, ne-eqb fault 0 n, e), rw (← t .fault-is, ne-eqb fault 0 n))
+  refused e n = (rw (← t .fault-is, ne-eqb fault 0 n, e), (rw (← t .fault-is, ne-eqb fault 0 n), t .sized))
 
   -- an acceptance leaves the image in it, and the bookmark goes on by the image's length
   pub accepted : {new : List ℕ} {next : Bookmark} → fault ≡ 0 → new ≡ put buffer (mark .offset) (imageIn request)
       → next ≡ markAfter (mark .offset + sizeOf (kindIn request) + body) (mark .last) (timeIn request)
-      → (Next next ≡ appendAnswer (length buffer) mark request) × (new ≡ appendBuffer buffer mark request)
+      → (Next next ≡ appendAnswer (length buffer) mark request) × ((new ≡ appendBuffer buffer mark request) × Sized request)
   unfolding appendAnswer appendBuffer
   accepted z e f =
       let n : mark .offset + sizeOf (kindIn request) + body ≡ mark .offset + length (imageIn request)
       = omega (arith, length-imageIn request, t .long) in
-      (rw (← t .fault-is, eq-eqb fault 0 z, f, n), rw (← t .fault-is, eq-eqb fault 0 z, e))
+      (rw (← t .fault-is, eq-eqb fault 0 z, f, n), (rw (← t .fault-is, eq-eqb fault 0 z, e), t .sized))
 
 -- What a limit that is not passed says of the length of a name, a value or a path.
 
@@ -113,24 +116,24 @@ both-short most most′ m n e =
 
 -- The same for a header.
 
-module _ (buffer : List ℕ) (header : Header) {fault : ℕ} (e : fault ≡ writeFault (length buffer) header) where
+module _ (buffer : List ℕ) (header : Header) {fault : ℕ} (own : (fault ≡ writeFault (length buffer) header) × SizedHeader header) where
   pub header-refused : {refusal : Refusal} → refusal ≡ refusalOf fault → (fault ≡ 0 → ⊥)
-      → (Refused refusal ≡ writeAnswer (length buffer) header) × (buffer ≡ writeBuffer buffer header)
+      → (Refused refusal ≡ writeAnswer (length buffer) header) × ((buffer ≡ writeBuffer buffer header) × SizedHeader header)
   unfolding writeAnswer writeBuffer
-  header-refused r n = (rw (← e, ne-eqb fault 0 n, r), rw (← e, ne-eqb fault 0 n))
+  header-refused r n = (rw (← own .0, ne-eqb fault 0 n, r), (rw (← own .0, ne-eqb fault 0 n), own .1))
 
   pub header-accepted : {new : List ℕ} {next : Bookmark} → fault ≡ 0 → new ≡ put buffer 0 (headerImage header)
       → next ≡ firstMark (header .sequence)
-      → (Next next ≡ writeAnswer (length buffer) header) × (new ≡ writeBuffer buffer header)
+      → (Next next ≡ writeAnswer (length buffer) header) × ((new ≡ writeBuffer buffer header) × SizedHeader header)
   unfolding writeAnswer writeBuffer
-  header-accepted z h f = (rw (← e, eq-eqb fault 0 z, f), rw (← e, eq-eqb fault 0 z, h))
+  header-accepted z h f = (rw (← own .0, eq-eqb fault 0 z, f), (rw (← own .0, eq-eqb fault 0 z, h), own .1))
 
   -- the lengths are right, and there is room
   pub header-fits : fault ≡ 0 → (length (header .id) ≡ 16) × ((length (header .previous) ≡ 32) × (80 ≤ length buffer))
   unfolding writeFault
   header-fits z =
       let order = writeOrder (length buffer) header in
-      let clear = sym e ∙ z in (
+      let clear = sym (own .0) ∙ z in (
         eqb-true _ _ (not-false _ (passed 0 order tt clear)),
         (eqb-true _ _ (not-false _ (passed 1 order tt clear)), ltb-false _ _ (passed 3 order tt clear)),
       )

@@ -76,7 +76,8 @@ writeAnswer room header =
 unfoldable pub writeBuffer : (buffer : List ℕ) → Header → List ℕ
 writeBuffer buffer header = cond (eqb (writeFault (length buffer) header) 0) (put buffer 0 (headerImage header)) buffer
 
--- what holds of the arguments of the header writer, by their types
+-- What holds of the arguments of the header writer, by their types: its contract has it, whether they are refused or not. The
+-- header of a volume that keeps the rules is sized as well (`header-sized`).
 pub record SizedHeader (header : Header) : Type 0 where
   pub fit : header .sequence < 256 ^ 8
   pub id-bytes : Bytes (header .id)

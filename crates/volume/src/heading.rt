@@ -20,7 +20,7 @@ ghost use Prim.Native.Nat.{_-_, _≤_};
 ghost use lib.ListN.{length};
 ghost use Rattle.checks.specs.Checks.{firstFault};
 ghost use Rattle.volume.specs.Heading.{hashWrong, fieldOrder, headerFault, firstMark, headerAnswer, partAnswer, partAddress};
-ghost use Rattle.volume.specs.Writing.{writeFault, writeAnswer, writeBuffer};
+ghost use Rattle.volume.specs.Writing.{SizedHeader, writeFault, writeAnswer, writeBuffer};
 
 // The lengths of a file system ID and of a hash.
 const ID_LEN: usize = 16;
@@ -128,9 +128,11 @@ pub fn previous_hash(volume: &[u8]) -> &[u8]
     handed_out(volume, 44, 76)
 }
 
-// The first fault of a header to write, or 0.
+// The first fault of a header to write, or 0. The arguments are sized, refused or not.
 fn write_fault(room: usize, id: &[u8], sequence: u64, previous: &[u8]) -> u64
-    ensures { λ r. ⌜ r ≡ writeFault room
+    ensures fault { λ r. ⌜ r ≡ writeFault room
+        (record { id = now (id .entry); sequence = sequence; previous = now (previous .entry) }) ⌝ }
+    ensures sized { λ _. ⌜ SizedHeader
         (record { id = now (id .entry); sequence = sequence; previous = now (previous .entry) }) ⌝ }
 {
     if id.len() != ID_LEN {
@@ -149,10 +151,13 @@ fn write_fault(room: usize, id: &[u8], sequence: u64, previous: &[u8]) -> u64
 }
 
 // Writes a header at the beginning of the buffer: the bookmark after it, or the refusal, which leaves the buffer as it was.
+// The arguments are sized, refused or not.
 pub fn write_header(buf: &mut [u8], id: &[u8], sequence: u64, previous: &[u8]) -> WriteAnswer
     ensures answer { λ r. ⌜ r ≡ writeAnswer (length (now (buf .entry)))
         (record { id = now (id .entry); sequence = sequence; previous = now (previous .entry) }) ⌝ }
     ensures buffer { λ _. ⌜ now (buf .exit) ≡ writeBuffer (now (buf .entry))
+        (record { id = now (id .entry); sequence = sequence; previous = now (previous .entry) }) ⌝ }
+    ensures sized { λ _. ⌜ SizedHeader
         (record { id = now (id .entry); sequence = sequence; previous = now (previous .entry) }) ⌝ }
 {
     let fault = write_fault(buf.len(), id, sequence, previous);

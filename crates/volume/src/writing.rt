@@ -20,6 +20,7 @@ ghost use lib.Dec.{ltb};
 ghost use lib.ListN.{length};
 ghost use Rattle.checks.specs.Checks.{firstFault};
 ghost use Rattle.request.specs.Requests.{Inode, Link, Unlink, Xattr, RemovedXattr, Data, Rename, Table};
+ghost use Rattle.request.specs.Asking.{Sized};
 ghost use Rattle.volume.specs.Reading.{asOption};
 ghost use Rattle.volume.specs.Writing.{placeOrder, roomOrder, askedOrder, appendAnswer, appendBuffer};
 
@@ -38,12 +39,7 @@ const RENAME_SIZE: usize = 17;
 
 const TABLE_SIZE: usize = 13;
 
-// The most bytes of the name in a link or an unlink, and of that in a removed xattr: what their length fields can say.
-const NAME_MOST: usize = 65535;
-
-const XATTR_NAME_MOST: usize = 255;
-
-// Each append answers the bookmark after the block, or the refusal.
+// Each append answers the bookmark after the block, or the refusal. Its arguments are sized, refused or not.
 impl Bookmark {
     // Appends an inode block, `rest` being its target or its list of extents.
     pub fn append_inode(
@@ -65,12 +61,25 @@ impl Bookmark {
             (Inode inode time mode uid gid atime mtime ctime btime size (now (rest .entry))) ⌝ }
         ensures buffer { λ _. ⌜ now (buf .exit) ≡ appendBuffer (now (buf .entry)) self
             (Inode inode time mode uid gid atime mtime ctime btime size (now (rest .entry))) ⌝ }
+        ensures sized { λ _. ⌜ Sized (Inode inode time mode uid gid atime mtime ctime btime size (now (rest .entry))) ⌝ }
     {
         let offset = self.offset;
         let last = self.last;
         let body = rest.len();
         let when = LastTime::At(time);
-        let asked = request::inode_fault(mode, size, rest);
+        let asked = request::inode_fault(
+            inode,
+            time,
+            mode,
+            uid,
+            gid,
+            atime,
+            mtime,
+            ctime,
+            btime,
+            size,
+            rest,
+        );
         let fault = append_fault(self, false, asked, when, INODE_SIZE, body, buf.len());
         if fault != 0 {
             return WriteAnswer::Refused(refuse(fault));
@@ -106,12 +115,13 @@ impl Bookmark {
             (Link time child parent (now (name .entry))) ⌝ }
         ensures buffer { λ _. ⌜ now (buf .exit) ≡ appendBuffer (now (buf .entry)) self
             (Link time child parent (now (name .entry))) ⌝ }
+        ensures sized { λ _. ⌜ Sized (Link time child parent (now (name .entry))) ⌝ }
     {
         let offset = self.offset;
         let last = self.last;
         let body = name.len();
         let when = LastTime::At(time);
-        let asked = request::name_fault(name, NAME_MOST);
+        let asked = request::link_fault(time, child, parent, name);
         let fault = append_fault(self, false, asked, when, LINK_SIZE, body, buf.len());
         if fault != 0 {
             return WriteAnswer::Refused(refuse(fault));
@@ -133,12 +143,13 @@ impl Bookmark {
             (Unlink time child parent (now (name .entry))) ⌝ }
         ensures buffer { λ _. ⌜ now (buf .exit) ≡ appendBuffer (now (buf .entry)) self
             (Unlink time child parent (now (name .entry))) ⌝ }
+        ensures sized { λ _. ⌜ Sized (Unlink time child parent (now (name .entry))) ⌝ }
     {
         let offset = self.offset;
         let last = self.last;
         let body = name.len();
         let when = LastTime::At(time);
-        let asked = request::name_fault(name, NAME_MOST);
+        let asked = request::unlink_fault(time, child, parent, name);
         let fault = append_fault(self, false, asked, when, LINK_SIZE, body, buf.len());
         if fault != 0 {
             return WriteAnswer::Refused(refuse(fault));
@@ -160,12 +171,13 @@ impl Bookmark {
             (Xattr time inode (now (name .entry)) (now (value .entry))) ⌝ }
         ensures buffer { λ _. ⌜ now (buf .exit) ≡ appendBuffer (now (buf .entry)) self
             (Xattr time inode (now (name .entry)) (now (value .entry))) ⌝ }
+        ensures sized { λ _. ⌜ Sized (Xattr time inode (now (name .entry)) (now (value .entry))) ⌝ }
     {
         let offset = self.offset;
         let last = self.last;
         let body = name.len() + value.len();
         let when = LastTime::At(time);
-        let asked = request::xattr_fault(name, value);
+        let asked = request::xattr_fault(time, inode, name, value);
         let fault = append_fault(self, false, asked, when, XATTR_SIZE, body, buf.len());
         if fault != 0 {
             return WriteAnswer::Refused(refuse(fault));
@@ -186,12 +198,13 @@ impl Bookmark {
             (RemovedXattr time inode (now (name .entry))) ⌝ }
         ensures buffer { λ _. ⌜ now (buf .exit) ≡ appendBuffer (now (buf .entry)) self
             (RemovedXattr time inode (now (name .entry))) ⌝ }
+        ensures sized { λ _. ⌜ Sized (RemovedXattr time inode (now (name .entry))) ⌝ }
     {
         let offset = self.offset;
         let last = self.last;
         let body = name.len();
         let when = LastTime::At(time);
-        let asked = request::name_fault(name, XATTR_NAME_MOST);
+        let asked = request::removed_xattr_fault(time, inode, name);
         let fault = append_fault(self, false, asked, when, REMOVED_SIZE, body, buf.len());
         if fault != 0 {
             return WriteAnswer::Refused(refuse(fault));
@@ -206,6 +219,7 @@ impl Bookmark {
             (Data time (now (payload .entry))) ⌝ }
         ensures buffer { λ _. ⌜ now (buf .exit) ≡ appendBuffer (now (buf .entry)) self
             (Data time (now (payload .entry))) ⌝ }
+        ensures sized { λ _. ⌜ Sized (Data time (now (payload .entry))) ⌝ }
     {
         let offset = self.offset;
         let last = self.last;
@@ -225,12 +239,13 @@ impl Bookmark {
             (Rename time (now (old .entry)) (now (new .entry))) ⌝ }
         ensures buffer { λ _. ⌜ now (buf .exit) ≡ appendBuffer (now (buf .entry)) self
             (Rename time (now (old .entry)) (now (new .entry))) ⌝ }
+        ensures sized { λ _. ⌜ Sized (Rename time (now (old .entry)) (now (new .entry))) ⌝ }
     {
         let offset = self.offset;
         let last = self.last;
         let body = old.len() + new.len();
         let when = LastTime::At(time);
-        let asked = request::rename_fault(old, new);
+        let asked = request::rename_fault(time, old, new);
         let fault = append_fault(self, false, asked, when, RENAME_SIZE, body, buf.len());
         if fault != 0 {
             return WriteAnswer::Refused(refuse(fault));
@@ -245,6 +260,7 @@ impl Bookmark {
             (Table count (now (links .entry))) ⌝ }
         ensures buffer { λ _. ⌜ now (buf .exit) ≡ appendBuffer (now (buf .entry)) self
             (Table count (now (links .entry))) ⌝ }
+        ensures sized { λ _. ⌜ Sized (Table count (now (links .entry))) ⌝ }
     {
         let offset = self.offset;
         let last = self.last;

@@ -19,7 +19,7 @@ returns : tie.Need-returns
 returns c =
     let a = c .before .before .before in
     let mark = a .before .before .bookmark-of .ensures in
-    (rw (c .written-numbers .ensures, a .append-rename .ensures .0, mark), rw (← mark) (a .append-rename .ensures .1))
+    (rw (c .written-numbers .ensures, a .append-rename .ensures .0, mark), rw (← mark) (a .append-rename .ensures .1 .0))
 
 pub hdrfs-append-rename-spec : {M : Type 1} → statement M
 hdrfs-append-rename-spec =

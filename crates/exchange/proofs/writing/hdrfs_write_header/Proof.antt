@@ -15,7 +15,7 @@ same-length c = search needs
 returns : tie.Need-returns
 returns c =
     let w = c .before .before .before .write-header in
-    (rw (c .written-numbers .ensures, w .ensures .0), w .ensures .1)
+    (rw (c .written-numbers .ensures, w .ensures .0), w .ensures .1 .0)
 
 pub hdrfs-write-header-spec : {M : Type 1} → statement M
 hdrfs-write-header-spec =

@@ -4,6 +4,7 @@ use native.Mathlib.Omega.{arith}
 use lib.ListN.{length}
 use borrow.Author.Needs.{needs}
 use Rattle.request.specs.Requests.{Data}
+use Rattle.request.specs.Asking.{Sized}
 use Rattle.request.proofs.Orders.{data-order}
 use Rattle.volume.proofs.Writers.{Told, told, room-left, refused, accepted}
 use Rattle.volume.proofs.Bookmark.append_data.Statement.{statement}
@@ -17,8 +18,10 @@ here : (c : tie.After-append-fault) → let a = c .before .before .before .args 
     Told (a .buf .now) (a .self) (Data (a .time) (a .payload .now)) (length (a .payload .now)) (c .append-fault .result)
 here c =
     let a = c .before .before .before .args in
+    let sized : Sized (Data (a .time) (a .payload .now))
+    = record { fit = omega arith; bytes = λ i. c .before .shared-slice-known .given i .fits } in
     told (a .buf .now) (a .self) (Data (a .time) (a .payload .now))
-    (sym (data-order (a .time) (a .payload .now))) refl (c .append-fault .ensures)
+    (sym (data-order (a .time) (a .payload .now)), sized) refl (c .append-fault .ensures)
 
 refuse-requires : tie.Need-refuse-requires
 refuse-requires c κs = search needs

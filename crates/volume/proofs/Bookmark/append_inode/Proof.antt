@@ -20,7 +20,7 @@ here : (c : tie.After-append-fault) → let a = c .before .before .before .befor
 here c =
     let a = c .before .before .before .before .args in
     told (a .buf .now) (a .self) (Inode (a .inode) (a .time) (a .mode) (a .uid) (a .gid) (a .atime) (a .mtime) (a .ctime) (a .btime) (a .size) (a .rest .now))
-    (c .before .inode-fault .ensures (a .inode) (a .time) (a .uid) (a .gid) (a .atime) (a .mtime) (a .ctime) (a .btime)) refl (c .append-fault .ensures)
+    (c .before .inode-fault .ensures) refl (c .append-fault .ensures)
 
 refuse-requires : tie.Need-refuse-requires
 refuse-requires c κs = search needs

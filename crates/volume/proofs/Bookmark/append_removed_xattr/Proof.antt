@@ -1,16 +1,15 @@
 -- The checks decide, by the laws that hold for every request; without a fault the image is written and the bookmark goes on.
-use mathlib.Core.Path.{refl, sym, _∙_}
+use mathlib.Core.Path.{refl}
 use native.Mathlib.Omega.{arith}
 use lib.ListN.{length}
 use borrow.Author.Needs.{needs}
 use Rattle.request.specs.Requests.{RemovedXattr}
-use Rattle.request.proofs.Orders.{removed-xattr-order}
 use Rattle.volume.proofs.Writers.{Told, told, room-left, not-over, short, refused, accepted}
 use Rattle.volume.proofs.Bookmark.append_removed_xattr.Statement.{statement}
 use Rattle.volume.proofs.Bookmark.append_removed_xattr.Tie as tie
 
-name-fault-requires : tie.Need-name-fault-requires
-name-fault-requires c κs = search needs
+removed-xattr-fault-requires : tie.Need-removed-xattr-fault-requires
+removed-xattr-fault-requires c κs = search needs
 
 append-fault-requires : tie.Need-append-fault-requires
 append-fault-requires c κs = search needs
@@ -21,7 +20,7 @@ here : (c : tie.After-append-fault) → let a = c .before .before .before .befor
 here c =
     let a = c .before .before .before .before .args in
     told (a .buf .now) (a .self) (RemovedXattr (a .time) (a .inode) (a .name .now))
-    (c .before .name-fault .ensures ∙ sym (removed-xattr-order (a .time) (a .inode) (a .name .now))) refl (c .append-fault .ensures)
+    (c .before .removed-xattr-fault .ensures) refl (c .append-fault .ensures)
 
 refuse-requires : tie.Need-refuse-requires
 refuse-requires c κs = search needs
@@ -56,7 +55,7 @@ pub append-removed-xattr-spec : {M : Type 1} → statement M
 append-removed-xattr-spec =
     tie.close
     (tie.spec
-    name-fault-requires
+    removed-xattr-fault-requires
     append-fault-requires
     refuse-requires
     returns

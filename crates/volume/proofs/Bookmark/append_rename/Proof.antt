@@ -24,7 +24,7 @@ here : (c : tie.After-append-fault) → let a = c .before .before .before .befor
 here c =
     let a = c .before .before .before .before .before .args in
     told (a .buf .now) (a .self) (Rename (a .time) (a .old .now) (a .new .now))
-    (c .before .rename-fault .ensures (a .time)) (sym (length-append (a .old .now) (a .new .now))) (c .append-fault .ensures)
+    (c .before .rename-fault .ensures) (sym (length-append (a .old .now) (a .new .now))) (c .append-fault .ensures)
 
 refuse-requires : tie.Need-refuse-requires
 refuse-requires c κs = search needs

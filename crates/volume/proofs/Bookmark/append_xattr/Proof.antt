@@ -24,7 +24,7 @@ here : (c : tie.After-append-fault) → let a = c .before .before .before .befor
 here c =
     let a = c .before .before .before .before .before .args in
     told (a .buf .now) (a .self) (Xattr (a .time) (a .inode) (a .name .now) (a .value .now))
-    (c .before .xattr-fault .ensures (a .time) (a .inode)) (sym (length-append (a .name .now) (a .value .now))) (c .append-fault .ensures)
+    (c .before .xattr-fault .ensures) (sym (length-append (a .name .now) (a .value .now))) (c .append-fault .ensures)
 
 refuse-requires : tie.Need-refuse-requires
 refuse-requires c κs = search needs
