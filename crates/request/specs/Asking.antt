@@ -47,4 +47,5 @@ argumentWidths linkTable = u64 ∷ []
 -- keeps the rules is sized (`rules-sized`).
 pub record Sized (request : Request) : Type 0 where
   pub fit : Fit (argumentWidths (kindIn request)) (valuesIn request)
+  -- a slice of bytes holds bytes
   pub bytes : Bytes (bodyIn request)

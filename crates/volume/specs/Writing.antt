@@ -80,5 +80,6 @@ writeBuffer buffer header = cond (eqb (writeFault (length buffer) header) 0) (pu
 -- header of a volume that keeps the rules is sized as well (`header-sized`).
 pub record SizedHeader (header : Header) : Type 0 where
   pub fit : header .sequence < 256 ^ 8
+  -- a slice of bytes holds bytes
   pub id-bytes : Bytes (header .id)
   pub hash-bytes : Bytes (header .previous)
