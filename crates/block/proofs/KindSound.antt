@@ -48,7 +48,7 @@ two-parts volume start m n h =
     (length-part volume start m (omega arith), length-part volume (start + m) n (omega arith), sym (part-add volume start m n))
 
 -- the links of a table that end within the volume
-links-within : (volume : List ℕ) (offset : ℕ) → bodyEnd linkTable volume offset ≤ length volume
+pub links-within : (volume : List ℕ) (offset : ℕ) → bodyEnd linkTable volume offset ≤ length volume
     → linkStart (drop (offset + before linkTable) volume) (fieldAt linkTable 0 volume offset)
     ≤ length (drop (offset + before linkTable) volume)
 unfolding bodyLength

@@ -6,3 +6,4 @@ pub mod KindSound
 pub mod KindComplete
 pub mod BlockImage
 pub mod SameBlock
+pub mod TableLinks

@@ -20,3 +20,4 @@ pub mod WrongWriters
 pub mod WrongLookups
 pub mod WrongListing
 pub mod Wrong
+pub mod TableLinks

@@ -4,5 +4,6 @@ pub mod Fetching
 pub mod Demand3Reading
 pub mod Demand3
 pub mod Listed
+pub mod TableLinks
 pub mod Samples
 pub mod Wrong

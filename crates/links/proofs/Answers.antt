@@ -7,10 +7,10 @@ use native.Mathlib.Omega.{arith}
 use lib.Dec.{ltb, leb}
 use lib.ListN.{length}
 use borrow.Author.Tests.{lt-ltb, le-ltb, le-leb, lt-leb, leb-true}
-use Rattle.number.specs.Number.{numberAt, part}
+use Rattle.number.specs.Number.{numberAt}
 use Rattle.order.proofs.Cases.{cases}
-use Rattle.format.specs.Blocks.{TableLink}
 use Rattle.links.specs.Links.{nameLengthAt, parentAt, linkStart, linkAt, foundAt, linkFrom, linkAnswer}
+use Rattle.links.specs.Walked.{shownLink}
 use Rattle.links.specs.declared.Link.{Link}
 use Rattle.links.specs.declared.LinkAnswer.the-variants.{Found, Missing}
 
@@ -42,17 +42,13 @@ module _ (links : List ℕ) (count index : ℕ) where
       (λ past. sym (cut-short links at (omega arith)) ∙ cut-short links (linkStart links index) (omega arith))
       (λ within. let e : at ≡ linkStart links index = omega arith in rw e))
 
--- the link that an answer shows, with its name taken from the bytes
-abbrev pub shown : (links : List ℕ) → Link → TableLink
-shown links link = record { child = link .child; parent = link .parent; name = part links (link .name) (link .len) }
-
--- it is the link at that place
+-- the link that an answer shows is the one at that place
 pub answer-shows-the-link-there : (links : List ℕ) (at : ℕ) (link : Link) → linkFrom links at ≡ Found link
-    → shown links link ≡ linkAt links at
+    → shownLink links link ≡ linkAt links at
 unfolding linkFrom
 answer-shows-the-link-there links at link = go (leb (at + (18 + nameLengthAt links at)) (length links))
   where
-    go : (there : Bool) → cond there (Found (foundAt links at)) Missing ≡ Found link → shown links link ≡ linkAt links at
+    go : (there : Bool) → cond there (Found (foundAt links at)) Missing ≡ Found link → shownLink links link ≡ linkAt links at
     go true e = let s : foundAt links at ≡ link = cc in rw (← s)
     go false e = let z : _≡_ {A = ℕ} 0 1 = cc in absurd (omega arith)
 
@@ -72,11 +68,11 @@ answer-ends-within links at link = go (leb (at + (18 + nameLengthAt links at)) (
 
 -- it is the link with that number
 pub answer-shows-the-link : (links : List ℕ) (count index : ℕ) (link : Link) → linkAnswer links count index ≡ Found link
-    → shown links link ≡ linkAt links (linkStart links index)
+    → shownLink links link ≡ linkAt links (linkStart links index)
 unfolding linkAnswer
 answer-shows-the-link links count index link = go (ltb index count)
   where
     go : (there : Bool) → cond there (linkFrom links (linkStart links index)) Missing ≡ Found link
-        → shown links link ≡ linkAt links (linkStart links index)
+        → shownLink links link ≡ linkAt links (linkStart links index)
     go true e = answer-shows-the-link-there links (linkStart links index) link e
     go false e = let z : _≡_ {A = ℕ} 0 1 = cc in absurd (omega arith)

@@ -5,3 +5,4 @@ pub mod Keys
 pub mod Twins
 pub mod Lists
 pub mod Rules
+pub mod Walks

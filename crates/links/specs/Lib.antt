@@ -1,2 +1,3 @@
 pub mod Links
+pub mod Walked
 pub mod Sorting

@@ -4,3 +4,5 @@ pub mod HeaderImage
 pub mod OneCall
 pub mod Appending
 pub mod Writers
+pub mod TableLinks
+pub mod Verdicts
