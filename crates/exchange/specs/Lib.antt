@@ -5,3 +5,4 @@ pub mod Walking
 pub mod Places
 pub mod Sources
 pub mod Writing
+pub mod Crossing
