@@ -80,8 +80,10 @@ hdrfs_run_count hdrfs_runs(const uint8_t *volume, size_t volume_len, uint64_t of
 typedef struct {
     uint64_t refusal;
     uint64_t sequence;
-    uint64_t next; /* the bookmark after the header: its offset, and 1 where a link table is due there */
+    uint64_t next;     /* the bookmark after the header: its offset, and 1 where a link table is due there */
     uint64_t due;
+    uint64_t id;       /* where the file system ID begins in the volume, 16 bytes */
+    uint64_t previous; /* where the hash of the previous volume begins, 32 bytes */
 } hdrfs_heading;
 
 hdrfs_heading hdrfs_header(const uint8_t *volume, size_t volume_len);

@@ -39,7 +39,9 @@ IS_NUMBER(hdrfs_heading, refusal, 0);
 IS_NUMBER(hdrfs_heading, sequence, 1);
 IS_NUMBER(hdrfs_heading, next, 2);
 IS_NUMBER(hdrfs_heading, due, 3);
-HAS_FIELDS(hdrfs_heading, 4);
+IS_NUMBER(hdrfs_heading, id, 4);
+IS_NUMBER(hdrfs_heading, previous, 5);
+HAS_FIELDS(hdrfs_heading, 6);
 
 IS_NUMBER(hdrfs_block, refusal, 0);
 IS_NUMBER(hdrfs_block, end, 1);

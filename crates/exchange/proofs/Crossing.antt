@@ -4,6 +4,7 @@ use Prim.Native.Nat.{ℕ}
 use mathlib.Core.Path.{_≡_, refl, sym, ap, ap₂, _∙_}
 use mathlib.Core.Bool.{Bool, true, false, cond}
 use mathlib.Core.List.{List}
+use native.Mathlib.Omega.{arith}
 use lib.Dec.{eqb}
 use lib.ListN.{length}
 use borrow.Author.Tests.{ne-eqb}
@@ -24,7 +25,7 @@ use Rattle.block.specs.declared.Block.{Block}
 use Rattle.block.specs.declared.Block.the-variants.{Inode, Link, Unlink, Xattr, RemovedXattr, Data, Rename, Table}
 use Rattle.block.proofs.TableLinks.{Filled}
 use Rattle.request.specs.Requests.{Request}
-use Rattle.volume.specs.Heading.{sequenceOf, headerFault, firstMark, refusalOf, headerAnswer}
+use Rattle.volume.specs.Heading.{sequenceOf, headerFault, firstMark, refusalOf, headerAnswer, partAnswer}
 use Rattle.volume.specs.Reading.{readFault, nextMark, readAnswer}
 use Rattle.volume.specs.Checking.{checkAnswer}
 use Rattle.volume.specs.Writing.{writeFault, writeAnswer, appendFault, appendAnswer}
@@ -40,6 +41,7 @@ use Rattle.volume.specs.declared.Verdict.{Verdict}
 use Rattle.volume.specs.declared.Verdict.the-variants as Verdict
 use Rattle.volume.specs.declared.WriteAnswer.{WriteAnswer}
 use Rattle.volume.specs.declared.WriteAnswer.the-variants as WriteAnswer
+use Rattle.volume.proofs.Whole.{header-length}
 use Rattle.volume.proofs.Steps.{Answers, ends, finds, refuses, answers}
 use Rattle.volume.proofs.HeaderImage.{HeaderAnswers, accepts, rejects, header-answers}
 use Rattle.volume.proofs.Verdicts.{EndsWell, check-ends-well}
@@ -54,8 +56,9 @@ use Rattle.exchange.specs.Checking.{checkNumbers}
 use Rattle.exchange.specs.Walking.{foundNumbers, headingNumbers, blockNumbers, linkNumbers}
 use Rattle.exchange.specs.Places.{placeNumbers, runCountNumbers}
 use Rattle.exchange.specs.Writing.{writtenNumbers}
-use Rattle.exchange.specs.Crossing.{headerBack, blockWith, foundBack, readBack, checkBack, writtenBack, positionBack, runsBack, linkBack}
-use Rattle.exchange.specs.Crossing.{LinksTold, none-left, told, TableTold, Crossing}
+use Rattle.exchange.specs.Crossing.{headerBack, blockWith, foundBack, readBack, checkBack, writtenBack}
+use Rattle.exchange.specs.Crossing.{positionBack, runsBack, linkBack}
+use Rattle.exchange.specs.Crossing.{PartsTold, LinksTold, none-left, told, TableTold, Crossing}
 
 pub bookmark-comes-back : (mark : Bookmark)
     → bookmarkOf (mark .offset) (flagNumber (mark .due)) (timedNumber (mark .last)) (timeNumber (mark .last)) ≡ mark
@@ -85,6 +88,18 @@ header-crosses volume = go (header-answers volume)
         ap (λ next. HeaderAnswer.Accepted (record { sequence = sequenceOf volume; next = next }))
         (bookmark-comes-back (firstMark (sequenceOf volume)))
     go (rejects f) = rw (ne-eqb (headerFault volume) 0 f)
+
+-- a header that is not refused has 80 bytes
+parts-told : (volume : List ℕ) → headingNumbers (headerAnswer volume) .refusal ≡ 0
+    → PartsTold volume (headingNumbers (headerAnswer volume))
+unfolding headingNumbers partAnswer
+parts-told volume = go (header-answers volume)
+  where
+    go : {a : HeaderAnswer} → HeaderAnswers volume a → headingNumbers a .refusal ≡ 0 → PartsTold volume (headingNumbers a)
+    go (accepts f) e =
+        let long = header-length volume f in
+        record { id = rw f; id-within = omega arith; previous = rw f; previous-within = omega arith }
+    go (rejects f) e = absurd (f e)
 
 -- the fields of each kind are among the numbers
 block-comes-back : (block : Block) (mark : Bookmark) → foundBack (foundNumbers block mark) .block ≡ block
@@ -191,6 +206,7 @@ everything-crosses =
     record {
       bookmark = bookmark-comes-back;
       header = header-crosses;
+      header-parts = parts-told;
       read = read-crosses;
       check = λ volume. check-crosses (checkAnswer volume) (check-ends-well volume);
       write-header = write-crosses;

@@ -5,7 +5,7 @@
 -- the library hands out is in them. The way back takes an answer for a refusal exactly where the field `refusal` is not 0: so no
 -- refusal has the number 0, and no other answer is taken for one. For fetched bytes see proofs/Told.antt. Proved in
 -- proofs/Crossing.antt.
-use Prim.Native.Nat.{ℕ}
+use Prim.Native.Nat.{ℕ, _+_, _≤_}
 use mathlib.Core.Path.{_≡_}
 use mathlib.Core.Bool.{cond}
 use mathlib.Core.List.{List, [], _∷_}
@@ -26,7 +26,7 @@ use Rattle.block.specs.declared.TableBlock.{TableBlock}
 use Rattle.block.specs.declared.Block.{Block}
 use Rattle.block.specs.declared.Block.the-variants.{Inode, Link, Unlink, Xattr, RemovedXattr, Data, Rename, Table}
 use Rattle.request.specs.Requests.{Request}
-use Rattle.volume.specs.Heading.{refusalOf, headerAnswer}
+use Rattle.volume.specs.Heading.{idOffset, previousOffset, refusalOf, headerAnswer, partAnswer}
 use Rattle.volume.specs.Reading.{readAnswer}
 use Rattle.volume.specs.Checking.{checkAnswer}
 use Rattle.volume.specs.Writing.{writeAnswer, appendAnswer}
@@ -145,6 +145,16 @@ linkBack n =
     (LinkAnswer.Found (record { child = n .child; parent = n .parent; name = n .name; len = n .namelen }))
     LinkAnswer.Missing
 
+-- The parts of a header.
+
+-- hdrfs_header tells where the file system ID and the previous hash stand: there are the parts that file_system_id and
+-- previous_hash hand out
+pub record PartsTold (volume : List ℕ) (n : HeadingNumbers) : Type 0 where
+  pub id : part volume (n .id) 16 ≡ partAnswer volume idOffset 16
+  pub id-within : n .id + 16 ≤ length volume
+  pub previous : part volume (n .previous) 32 ≡ partAnswer volume previousOffset 32
+  pub previous-within : n .previous + 32 ≤ length volume
+
 -- The links of a table.
 
 -- the link that the numbers show, its name being a part of the links
@@ -176,6 +186,10 @@ pub record Crossing : Type 0 where
       → bookmarkOf (mark .offset) (flagNumber (mark .due)) (timedNumber (mark .last)) (timeNumber (mark .last)) ≡ mark
   -- hdrfs_header, hdrfs_read, hdrfs_check
   pub header : (volume : List ℕ) → headerBack (headingNumbers (headerAnswer volume)) ≡ headerAnswer volume
+  pub header-parts :
+      (volume : List ℕ)
+      → headingNumbers (headerAnswer volume) .refusal ≡ 0
+      → PartsTold volume (headingNumbers (headerAnswer volume))
   pub read : (volume : List ℕ) (mark : Bookmark) → readBack (blockNumbers (readAnswer volume mark)) ≡ readAnswer volume mark
   pub check : (volume : List ℕ) → checkBack (checkNumbers (checkAnswer volume)) ≡ checkAnswer volume
   -- hdrfs_write_header, and the eight appends

@@ -4,6 +4,7 @@ use Rattle.links.specs.declared.LinkAnswer.{LinkAnswer}
 use Rattle.links.specs.declared.LinkAnswer.the-variants.{Found as Linked, Missing}
 use Rattle.block.specs.Shown.{timeOfBlock}
 use Rattle.block.specs.declared.Block.{Block}
+use Rattle.volume.specs.Heading.{idOffset, previousOffset}
 use Rattle.volume.specs.declared.Bookmark.{Bookmark}
 use Rattle.volume.specs.declared.HeaderAnswer.{HeaderAnswer}
 use Rattle.volume.specs.declared.HeaderAnswer.the-variants.{Accepted, Refused as Unsound}
@@ -17,8 +18,15 @@ use Rattle.exchange.specs.declared.LinkNumbers.{LinkNumbers}
 
 unfoldable pub headingNumbers : HeaderAnswer → HeadingNumbers
 headingNumbers (Accepted h) =
-    record { refusal = 0; sequence = h .sequence; next = h .next .offset; due = flagNumber (h .next .due) }
-headingNumbers (Unsound r) = record { refusal = r .number; sequence = 0; next = 0; due = 0 }
+    record {
+      refusal = 0;
+      sequence = h .sequence;
+      next = h .next .offset;
+      due = flagNumber (h .next .due);
+      id = idOffset;
+      previous = previousOffset;
+    }
+headingNumbers (Unsound r) = record { refusal = r .number; sequence = 0; next = 0; due = 0; id = 0; previous = 0 }
 
 -- the numbers before those that only some kinds of block have, and 0 for these
 abbrev pub plain : (refusal end id next due timed last time : ℕ) → BlockNumbers

@@ -30,6 +30,8 @@ pub struct HeadingNumbers {
     pub sequence: u64,
     pub next: u64,
     pub due: u64,
+    pub id: u64,
+    pub previous: u64,
 }
 
 // What reading a block answers: hdrfs_block.

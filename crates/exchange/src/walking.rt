@@ -18,7 +18,12 @@ ghost use Rattle.volume.specs.Reading.{readAnswer};
 ghost use Rattle.exchange.specs.Marks.{bookmarkOf};
 ghost use Rattle.exchange.specs.Walking.{headingNumbers, blockNumbers, linkNumbers};
 
-// The header, and the bookmark after it, which has no last time.
+// Where the file system ID and the hash of the previous volume begin in a volume.
+const ID_OFFSET: u64 = 18;
+
+const PREVIOUS_OFFSET: u64 = 44;
+
+// The header, the bookmark after it, which has no last time, and the places of what else it hands out.
 #[no_mangle]
 pub extern "C" fn hdrfs_header(volume: &[u8]) -> HeadingNumbers
     ensures { λ r. ⌜ r ≡ headingNumbers (headerAnswer (now (volume .entry))) ⌝ }
@@ -31,6 +36,8 @@ pub extern "C" fn hdrfs_header(volume: &[u8]) -> HeadingNumbers
                 sequence: header.sequence,
                 next: next.offset as u64,
                 due: flag_number(next.due),
+                id: ID_OFFSET,
+                previous: PREVIOUS_OFFSET,
             }
         }
         HeaderAnswer::Refused(refusal) => HeadingNumbers {
@@ -38,6 +45,8 @@ pub extern "C" fn hdrfs_header(volume: &[u8]) -> HeadingNumbers
             sequence: 0,
             next: 0,
             due: 0,
+            id: 0,
+            previous: 0,
         },
     }
 }

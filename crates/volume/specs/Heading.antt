@@ -16,15 +16,21 @@ use Rattle.volume.specs.declared.Refusal.{Refusal}
 use Rattle.volume.specs.declared.HeaderAnswer.{HeaderAnswer}
 use Rattle.volume.specs.declared.HeaderAnswer.the-variants.{Accepted, Refused}
 
--- the fields of a header, where they stand
+-- the fields of a header, where they stand; the file system ID and the previous hash are handed out as parts of the volume
+abbrev pub idOffset : ℕ
+idOffset = 18
+
+abbrev pub previousOffset : ℕ
+previousOffset = 44
+
 abbrev pub idOf : (volume : List ℕ) → List ℕ
-idOf volume = part volume 18 16
+idOf volume = part volume idOffset 16
 
 abbrev pub sequenceOf : (volume : List ℕ) → ℕ
 sequenceOf volume = numberAt volume 36 8
 
 abbrev pub previousOf : (volume : List ℕ) → List ℕ
-previousOf volume = part volume 44 32
+previousOf volume = part volume previousOffset 32
 
 -- 6: volume 0 with a previous hash that is not 32 zero bytes
 abbrev pub hashWrong : (sequence : ℕ) (previous : List ℕ) → Bool

@@ -19,7 +19,8 @@ ghost use mathlib.Core.Path.{_≡_};
 ghost use Prim.Native.Nat.{_-_, _≤_};
 ghost use lib.ListN.{length};
 ghost use Rattle.checks.specs.Checks.{firstFault};
-ghost use Rattle.volume.specs.Heading.{hashWrong, fieldOrder, headerFault, firstMark, headerAnswer, partAnswer, partAddress};
+ghost use Rattle.volume.specs.Heading.{hashWrong, fieldOrder, headerFault, firstMark, headerAnswer};
+ghost use Rattle.volume.specs.Heading.{idOffset, previousOffset, partAnswer, partAddress};
 ghost use Rattle.volume.specs.Writing.{SizedHeader, writeFault, writeAnswer, writeBuffer};
 
 // The lengths of a file system ID and of a hash.
@@ -114,16 +115,16 @@ fn handed_out(volume: &[u8], from: usize, to: usize) -> &[u8]
 
 // The file system ID, as a part of the volume; empty where the header is refused.
 pub fn file_system_id(volume: &[u8]) -> &[u8]
-    ensures bytes { λ r. ⌜ now r ≡ partAnswer (now (volume .entry)) 18 16 ⌝ }
-    ensures address { λ r. ⌜ r .ptr ≡ partAddress (now (volume .entry)) (volume .entry .ptr) 18 ⌝ }
+    ensures bytes { λ r. ⌜ now r ≡ partAnswer (now (volume .entry)) idOffset 16 ⌝ }
+    ensures address { λ r. ⌜ r .ptr ≡ partAddress (now (volume .entry)) (volume .entry .ptr) idOffset ⌝ }
 {
     handed_out(volume, 18, 34)
 }
 
 // The hash of the previous volume, as a part of the volume; empty where the header is refused.
 pub fn previous_hash(volume: &[u8]) -> &[u8]
-    ensures bytes { λ r. ⌜ now r ≡ partAnswer (now (volume .entry)) 44 32 ⌝ }
-    ensures address { λ r. ⌜ r .ptr ≡ partAddress (now (volume .entry)) (volume .entry .ptr) 44 ⌝ }
+    ensures bytes { λ r. ⌜ now r ≡ partAnswer (now (volume .entry)) previousOffset 32 ⌝ }
+    ensures address { λ r. ⌜ r .ptr ≡ partAddress (now (volume .entry)) (volume .entry .ptr) previousOffset ⌝ }
 {
     handed_out(volume, 44, 76)
 }

@@ -41,6 +41,8 @@ pub fn heading(answer: Result<Header<'_>, u64>) -> sys::Heading {
             sequence: header.sequence,
             next: header.next.offset,
             due: u64::from(header.next.due),
+            id: 18,
+            previous: 44,
         },
         Err(refusal) => sys::Heading {
             refusal,

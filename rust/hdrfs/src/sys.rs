@@ -315,6 +315,7 @@ on_a_volume! {
     /// # std::env::set_current_dir("../../crates/samples/data")?;
     /// let heading = hdrfs::sys::header(&std::fs::read("all_kinds.vol")?);
     /// assert_eq!((heading.sequence, heading.next, heading.due), (1, 80, 1));
+    /// assert_eq!((heading.id, heading.previous), (18, 44));
     /// # Ok::<(), std::io::Error>(())
     /// ```
     header calls hdrfs_header -> Heading;

@@ -75,6 +75,10 @@ pub struct Heading {
     pub next: u64,
     /// 1: a link table is due there.
     pub due: u64,
+    /// Where the file system ID begins in the volume, 16 bytes.
+    pub id: u64,
+    /// Where the hash of the previous volume begins, 32 bytes.
+    pub previous: u64,
 }
 
 /// One block; what a kind of block does not have is 0.
