@@ -133,6 +133,22 @@ typedef struct {
 
 hdrfs_link_entry hdrfs_link(const uint8_t *links, size_t links_len, uint64_t at);
 
+/* ---- The extents of a regular file, by their numbers, counted from 0: `list` is the inode's first variable part, which has
+ * 57 bytes for each extent. What lies past the end of the list is 0. */
+
+typedef struct {
+    uint64_t volume;       /* the sequence number of the volume that has the bytes */
+    uint64_t start;        /* where the first block begins in that volume */
+    uint64_t size;         /* how long a block is */
+    uint64_t multiplicity; /* 67: `count` blocks in a row, 82: one block read `count` times */
+    uint64_t count;
+    uint64_t pre;          /* how many bytes are left out at the beginning, and at the end */
+    uint64_t post;
+    uint64_t logical;      /* the first position of the file that is kept */
+} hdrfs_extent_entry;
+
+hdrfs_extent_entry hdrfs_extent(const uint8_t *list, size_t list_len, uint64_t index);
+
 /* ---- Which part of which of two volumes holds `len` bytes at `offset` of the volume with this sequence number. */
 
 typedef struct {

@@ -77,6 +77,16 @@ IS_NUMBER(hdrfs_link_entry, name_len, 4);
 IS_NUMBER(hdrfs_link_entry, next, 5);
 HAS_FIELDS(hdrfs_link_entry, 6);
 
+IS_NUMBER(hdrfs_extent_entry, volume, 0);
+IS_NUMBER(hdrfs_extent_entry, start, 1);
+IS_NUMBER(hdrfs_extent_entry, size, 2);
+IS_NUMBER(hdrfs_extent_entry, multiplicity, 3);
+IS_NUMBER(hdrfs_extent_entry, count, 4);
+IS_NUMBER(hdrfs_extent_entry, pre, 5);
+IS_NUMBER(hdrfs_extent_entry, post, 6);
+IS_NUMBER(hdrfs_extent_entry, logical, 7);
+HAS_FIELDS(hdrfs_extent_entry, 8);
+
 IS_NUMBER(hdrfs_source, refusal, 0);
 IS_NUMBER(hdrfs_source, which, 1);
 HAS_FIELDS(hdrfs_source, 2);
@@ -151,7 +161,7 @@ static const uint8_t ALL[659] = {
     0x33, 0xcd, 0xe0,
 };
 
-enum { TABLE_AT = 80, FILE_AT = 137, LINKS_AT = 89 };
+enum { TABLE_AT = 80, FILE_AT = 137, LINKS_AT = 89, EXTENTS_AT = 208 };
 
 static const uint8_t LENGTHS[16] = {sizeof V, 0, 0, 0, 0, 0, 0, 0, sizeof ALL & 255, sizeof ALL / 256, 0, 0, 0, 0, 0, 0};
 
@@ -293,6 +303,17 @@ static void read_links(void)
     SHOW(hdrfs_link_entry, hdrfs_link(NULL, 0, 0));
 }
 
+static void read_extents(void)
+{
+    const uint8_t *extents = ALL + EXTENTS_AT;
+    SHOW(hdrfs_extent_entry, hdrfs_extent(extents, 114, 0));
+    SHOW(hdrfs_extent_entry, hdrfs_extent(extents, 114, 1));
+    SHOW(hdrfs_extent_entry, hdrfs_extent(extents, 114, 2));
+    SHOW(hdrfs_extent_entry, hdrfs_extent(extents, 106, 1));
+    SHOW(hdrfs_extent_entry, hdrfs_extent(extents, 114, TOP));
+    SHOW(hdrfs_extent_entry, hdrfs_extent(NULL, 0, 0));
+}
+
 static void fetch(void)
 {
     SHOW(hdrfs_source, hdrfs_fetch(V, sizeof V, ALL, sizeof ALL, 0, 97, 3));
@@ -382,6 +403,7 @@ int main(void)
     ask_for_runs();
     read_blocks();
     read_links();
+    read_extents();
     fetch();
     write_all();
     write_refused();

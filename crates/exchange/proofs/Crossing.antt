@@ -12,6 +12,8 @@ use Rattle.number.specs.Number.{Bytes}
 use Rattle.format.specs.Blocks as format
 use Rattle.format.specs.Blocks.{TableLink}
 use Rattle.format.specs.Headers.{Header}
+use Rattle.format.specs.declared.Extent.{Extent}
+use Rattle.extent.specs.Extents.{extentAt}
 use Rattle.links.specs.Links.{linkFrom, linksFrom}
 use Rattle.links.specs.Walked.{Walked, none-left as ended, handed}
 use Rattle.links.specs.declared.LinkAnswer.{LinkAnswer}
@@ -53,11 +55,11 @@ use Rattle.lookup.specs.declared.PositionAnswer.the-variants as PositionAnswer
 use Rattle.lookup.specs.declared.RunsAnswer.the-variants as RunsAnswer
 use Rattle.exchange.specs.Marks.{flagNumber, timedNumber, timeNumber, bookmarkOf}
 use Rattle.exchange.specs.Checking.{checkNumbers}
-use Rattle.exchange.specs.Walking.{foundNumbers, headingNumbers, blockNumbers, linkNumbers}
+use Rattle.exchange.specs.Walking.{foundNumbers, headingNumbers, blockNumbers, linkNumbers, extentNumbers}
 use Rattle.exchange.specs.Places.{placeNumbers, runCountNumbers}
 use Rattle.exchange.specs.Writing.{writtenNumbers}
 use Rattle.exchange.specs.Crossing.{headerBack, blockWith, foundBack, readBack, checkBack, writtenBack}
-use Rattle.exchange.specs.Crossing.{positionBack, runsBack, linkBack}
+use Rattle.exchange.specs.Crossing.{positionBack, runsBack, linkBack, extentBack}
 use Rattle.exchange.specs.Crossing.{PartsTold, LinksTold, none-left, told, TableTold, Crossing}
 
 pub bookmark-comes-back : (mark : Bookmark)
@@ -168,7 +170,11 @@ runs-cross volume offset lengths from to room =
     let fault : ℕ = runsFault volume offset lengths from to room in
     either (λ a. runsBack (runCountNumbers a)) (eqb fault 0) _ (RunsAnswer.Refused (refusalOf fault)) refl (λ f. rw f)
 
--- The links of a table.
+-- Extents, and the links of a table.
+
+extent-crosses : (e : Extent) → extentBack (extentNumbers e) ≡ e
+unfolding extentBack extentNumbers
+extent-crosses e = refl
 
 link-crosses : (answer : LinkAnswer) → linkBack (linkNumbers answer) ≡ answer
 unfolding linkBack linkNumbers
@@ -215,6 +221,7 @@ everything-crosses =
           λ volume offset lengths at.
           position-crosses (positionAnswer volume offset lengths at) (position-refused-by-number volume offset lengths at);
       runs = runs-cross;
+      extent = λ list index. extent-crosses (extentAt list index);
       link = λ links at. link-crosses (linkFrom links at);
       table-links = table-crosses;
     }

@@ -15,6 +15,8 @@ use Rattle.number.specs.Number.{Bytes, part}
 use Rattle.format.specs.Blocks as format
 use Rattle.format.specs.Blocks.{Kind, inodeBlock, linkBlock, unlinkBlock, xattrBlock, removedXattrBlock, dataBlock, renameBlock, linkTable, TableLink}
 use Rattle.format.specs.Headers.{Header}
+use Rattle.format.specs.declared.Extent.{Extent}
+use Rattle.extent.specs.Extents.{extentAt}
 use Rattle.links.specs.Links.{linkFrom}
 use Rattle.links.specs.declared.LinkAnswer.{LinkAnswer}
 use Rattle.links.specs.declared.LinkAnswer.the-variants as LinkAnswer
@@ -47,12 +49,13 @@ use Rattle.lookup.specs.declared.RunsAnswer.{RunsAnswer}
 use Rattle.lookup.specs.declared.RunsAnswer.the-variants as RunsAnswer
 use Rattle.exchange.specs.Marks.{flagNumber, timedNumber, timeNumber, bookmarkOf}
 use Rattle.exchange.specs.Checking.{checkNumbers}
-use Rattle.exchange.specs.Walking.{headingNumbers, blockNumbers, linkNumbers}
+use Rattle.exchange.specs.Walking.{headingNumbers, blockNumbers, linkNumbers, extentNumbers}
 use Rattle.exchange.specs.Places.{placeNumbers, runCountNumbers}
 use Rattle.exchange.specs.Writing.{writtenNumbers}
 use Rattle.exchange.specs.declared.HeadingNumbers.{HeadingNumbers}
 use Rattle.exchange.specs.declared.BlockNumbers.{BlockNumbers}
 use Rattle.exchange.specs.declared.LinkNumbers.{LinkNumbers}
+use Rattle.exchange.specs.declared.ExtentNumbers.{ExtentNumbers}
 use Rattle.exchange.specs.declared.CheckNumbers.{CheckNumbers}
 use Rattle.exchange.specs.declared.PlaceNumbers.{PlaceNumbers}
 use Rattle.exchange.specs.declared.RunCountNumbers.{RunCountNumbers}
@@ -145,6 +148,19 @@ linkBack n =
     (LinkAnswer.Found (record { child = n .child; parent = n .parent; name = n .name; len = n .namelen }))
     LinkAnswer.Missing
 
+unfoldable pub extentBack : ExtentNumbers → Extent
+extentBack n =
+    record {
+      volume = n .volume;
+      start = record { 0 = n .start };
+      size = n .size;
+      multiplicity = n .multiplicity;
+      count = n .count;
+      pre = n .pre;
+      post = n .post;
+      logical = record { 0 = n .logical };
+    }
+
 -- The parts of a header.
 
 -- hdrfs_header tells where the file system ID and the previous hash stand: there are the parts that file_system_id and
@@ -206,6 +222,8 @@ pub record Crossing : Type 0 where
   pub runs :
       (volume : List ℕ) (offset : ℕ) (lengths : List ℕ) (from to room : ℕ)
       → runsBack (runCountNumbers (runsAnswer volume offset lengths from to room)) ≡ runsAnswer volume offset lengths from to room
+  -- hdrfs_extent
+  pub extent : (list : List ℕ) (index : ℕ) → extentBack (extentNumbers (extentAt list index)) ≡ extentAt list index
   -- hdrfs_link, and all links of a table that is handed out
   pub link : (links : List ℕ) (at : ℕ) → linkBack (linkNumbers (linkFrom links at)) ≡ linkFrom links at
   pub table-links :

@@ -1,5 +1,6 @@
--- What reading a header, a block and a link of a table answer, as numbers.
+-- What reading a header, a block, a link of a table and an extent of a file answer, as numbers.
 use Prim.Native.Nat.{ℕ, _+_}
+use Rattle.format.specs.declared.Extent.{Extent}
 use Rattle.links.specs.declared.LinkAnswer.{LinkAnswer}
 use Rattle.links.specs.declared.LinkAnswer.the-variants.{Found as Linked, Missing}
 use Rattle.block.specs.Shown.{timeOfBlock}
@@ -15,6 +16,7 @@ use Rattle.exchange.specs.Blocks.{idNumber, orZero, inodeNumber, linkFie
 use Rattle.exchange.specs.declared.HeadingNumbers.{HeadingNumbers}
 use Rattle.exchange.specs.declared.BlockNumbers.{BlockNumbers}
 use Rattle.exchange.specs.declared.LinkNumbers.{LinkNumbers}
+use Rattle.exchange.specs.declared.ExtentNumbers.{ExtentNumbers}
 
 unfoldable pub headingNumbers : HeaderAnswer → HeadingNumbers
 headingNumbers (Accepted h) =
@@ -114,3 +116,16 @@ linkNumbers (Linked l) =
       next = l .name + l .len;
     }
 linkNumbers Missing = record { missing = 1; child = 0; parent = 0; name = 0; namelen = 0; next = 0 }
+
+unfoldable pub extentNumbers : Extent → ExtentNumbers
+extentNumbers e =
+    record {
+      volume = e .volume;
+      start = e .start .0;
+      size = e .size;
+      multiplicity = e .multiplicity;
+      count = e .count;
+      pre = e .pre;
+      post = e .post;
+      logical = e .logical .0;
+    }

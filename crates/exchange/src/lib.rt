@@ -1,9 +1,9 @@
 // The calls for programs in other languages, as include/hdrfs.h declares them: numbers and byte slices in, numbers out.
 //
-// Each turns the answer of a public call of `volume`, `links` or `lookup` into numbers, by a definition in specs/. The
-// structs below have the fields of those in the header file, in its order. `checking` has the check of a whole volume,
-// `walking` the header, the blocks and the links one by one, `places` positions and runs, `sources` the fetching of bytes,
-// `writing` the writing of a header and the appends.
+// Each turns the answer of a public call of `volume`, `links`, `extent` or `lookup` into numbers, by a definition in specs/.
+// The structs below have the fields of those in the header file, in its order. `checking` has the check of a whole volume,
+// `walking` the header, the blocks, the links and the extents one by one, `places` positions and runs, `sources` the fetching
+// of bytes, `writing` the writing of a header and the appends.
 mod blocks;
 pub mod checking;
 mod marks;
@@ -72,6 +72,19 @@ pub struct LinkNumbers {
     pub name: u64,
     pub namelen: u64,
     pub next: u64,
+}
+
+// What reading an extent of a file answers: hdrfs_extent_entry.
+#[repr(C)]
+pub struct ExtentNumbers {
+    pub volume: u64,
+    pub start: u64,
+    pub size: u64,
+    pub multiplicity: u64,
+    pub count: u64,
+    pub pre: u64,
+    pub post: u64,
+    pub logical: u64,
 }
 
 // What looking up a position answers: hdrfs_place.

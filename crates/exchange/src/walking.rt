@@ -1,22 +1,25 @@
-// Walking a volume: the header, the blocks by bookmark, and the links of a table, as numbers.
+// Walking a volume: the header, the blocks by bookmark, the links of a table and the extents of a file, as numbers.
 use crate::BlockNumbers;
+use crate::ExtentNumbers;
 use crate::HeadingNumbers;
 use crate::LinkNumbers;
 use crate::blocks::block_numbers;
 use crate::blocks::no_block;
 use crate::marks::bookmark_of;
 use crate::marks::flag_number;
+use extent::extent_at;
 use links::LinkAnswer;
 use links::link_from;
 use volume::HeaderAnswer;
 use volume::ReadAnswer;
 use volume::heading::read_header;
 ghost use mathlib.Core.Path.{_≡_};
+ghost use Rattle.extent.specs.Extents.{extentAt};
 ghost use Rattle.links.specs.Links.{linkFrom};
 ghost use Rattle.volume.specs.Heading.{headerAnswer};
 ghost use Rattle.volume.specs.Reading.{readAnswer};
 ghost use Rattle.exchange.specs.Marks.{bookmarkOf};
-ghost use Rattle.exchange.specs.Walking.{headingNumbers, blockNumbers, linkNumbers};
+ghost use Rattle.exchange.specs.Walking.{headingNumbers, blockNumbers, linkNumbers, extentNumbers};
 
 // Where the file system ID and the hash of the previous volume begin in a volume.
 const ID_OFFSET: u64 = 18;
@@ -96,5 +99,25 @@ pub extern "C" fn hdrfs_link(links: &[u8], at: u64) -> LinkNumbers
             namelen: 0,
             next: 0,
         },
+    }
+}
+
+// The extent with the given number, counted from 0, in the list of extents of a file. What lies past the end of the list is 0.
+#[no_mangle]
+pub extern "C" fn hdrfs_extent(list: &[u8], index: u64) -> ExtentNumbers
+    ensures { λ r. ⌜ r ≡ extentNumbers (extentAt (now (list .entry)) index) ⌝ }
+{
+    let extent = extent_at(list, index as usize);
+    let start = extent.start;
+    let logical = extent.logical;
+    ExtentNumbers {
+        volume: extent.volume,
+        start: start.0,
+        size: extent.size,
+        multiplicity: extent.multiplicity as u64,
+        count: extent.count,
+        pre: extent.pre,
+        post: extent.post,
+        logical: logical.0,
     }
 }

@@ -7,7 +7,9 @@
 mod answers;
 mod writing;
 
-pub use answers::{Block, Checked, Heading, LinkEntry, Place, RunCount, Source, Written};
+pub use answers::{
+    Block, Checked, ExtentEntry, Heading, LinkEntry, Place, RunCount, Source, Written,
+};
 pub use writing::{
     append_data, append_inode, append_link, append_removed_xattr, append_rename, append_table,
     append_unlink, append_xattr, write_header,
@@ -39,7 +41,9 @@ pub const PAST_END: u64 = 2;
 
 /// The declarations of the header file, in its order.
 mod raw {
-    use super::{Block, Checked, Heading, LinkEntry, Place, RunCount, Source, Written};
+    use super::{
+        Block, Checked, ExtentEntry, Heading, LinkEntry, Place, RunCount, Source, Written,
+    };
 
     type Bytes = *const u8;
 
@@ -112,6 +116,7 @@ mod raw {
             time: u64,
         ) -> Block;
         pub fn hdrfs_link(links: Bytes, links_len: usize, at: u64) -> LinkEntry;
+        pub fn hdrfs_extent(list: Bytes, list_len: usize, index: u64) -> ExtentEntry;
         pub fn hdrfs_fetch(
             first: Bytes,
             first_len: usize,
@@ -439,6 +444,21 @@ pub fn read(volume: &[u8], offset: u64, due: u64, timed: u64, time: u64) -> Bloc
 pub fn link(links: &[u8], at: u64) -> LinkEntry {
     // SAFETY: see above.
     unsafe { raw::hdrfs_link(links.as_ptr(), links.len(), at) }
+}
+
+/// The extent with this number, counted from 0, in a list of extents of 57 bytes each.
+///
+/// ```
+/// # std::env::set_current_dir("../../crates/samples/data")?;
+/// let volume = std::fs::read("all_kinds.vol")?;
+/// let extent = hdrfs::sys::extent(&volume[208..322], 1);
+/// assert_eq!((extent.start, extent.multiplicity, extent.logical), (97, 82, 4));
+/// # Ok::<(), std::io::Error>(())
+/// ```
+#[must_use]
+pub fn extent(list: &[u8], index: u64) -> ExtentEntry {
+    // SAFETY: see above.
+    unsafe { raw::hdrfs_extent(list.as_ptr(), list.len(), index) }
 }
 
 /// Which of two volumes has `len` bytes at `offset` of the volume with this sequence number.

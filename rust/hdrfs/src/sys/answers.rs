@@ -164,6 +164,33 @@ pub struct LinkEntry {
     pub next: u64,
 }
 
+/// One extent of a regular file; what lies past the end of the list is 0.
+///
+/// ```
+/// let nothing = hdrfs::sys::extent(&[], 0);
+/// assert_eq!(nothing, hdrfs::sys::ExtentEntry::default());
+/// ```
+#[repr(C)]
+#[derive(Clone, Copy, Debug, Default, PartialEq, Eq)]
+pub struct ExtentEntry {
+    /// The sequence number of the volume that has the bytes.
+    pub volume: u64,
+    /// Where the first block begins in that volume.
+    pub start: u64,
+    /// How long a block is.
+    pub size: u64,
+    /// 67: `count` blocks in a row; 82: one block read `count` times.
+    pub multiplicity: u64,
+    /// See `multiplicity`.
+    pub count: u64,
+    /// How many bytes are left out at the beginning.
+    pub pre: u64,
+    /// How many bytes are left out at the end.
+    pub post: u64,
+    /// The first position of the file that is kept.
+    pub logical: u64,
+}
+
 /// Which of two volumes has a range of bytes.
 ///
 /// ```
