@@ -5,6 +5,9 @@
  * of 0 means that nothing is refused; docs/REFUSALS.md says what the others mean. Beside a refusal every other value is 0,
  * except the offset and the number of blocks that the check of a whole volume hands out.
  *
+ * What is lent for writing, the list of hdrfs_runs and the buffer of a writing call, must not overlap any other slice of the same
+ * call. Nothing checks this: what a call answers is fixed only where it holds.
+ *
  * `lengths` has the lengths of the volumes, 8 bytes for each, lowest byte first; entry i is that of sequence number i.
  */
 #ifndef HDRFS_H

@@ -9,7 +9,7 @@ use lib.ListN.{replicate}
 use borrow.Author.Tests.{ltb-true}
 use mathlib.Mathlib.Data.Bool.Basic.{and-eq-true-eq-eq-true-and-eq-true as both-true}
 use Rattle.number.specs.Number.{Bytes, leBytes}
-use Rattle.number.proofs.Digits.{leBytes-bytes}
+use Rattle.number.proofs.Digits.{leBytes-bytes, bytes-append}
 use Rattle.crc32.specs.Crc.{crc}
 use Rattle.format.specs.declared.Extent.{Extent}
 use Rattle.format.specs.Layout.{All, laid, sealed}
@@ -19,13 +19,9 @@ use Rattle.format.specs.Blocks.{Block, idOf, kindOf, widths, fields, body, imag
 use Rattle.format.specs.Headers.{Header, HeaderRules, magic, headerFields, headerImage}
 use Rattle.format.specs.Readings.{Reading, images, volumeOf}
 
-pub bytes-cons : (byte : ℕ) (bytes : List ℕ) → byte < 256 → Bytes bytes → Bytes (byte ∷ bytes)
+bytes-cons : (byte : ℕ) (bytes : List ℕ) → byte < 256 → Bytes bytes → Bytes (byte ∷ bytes)
 bytes-cons byte bytes small b zero = small
 bytes-cons byte bytes small b (suc i) = b i
-
-pub bytes-append : (front back : List ℕ) → Bytes front → Bytes back → Bytes (front ++ back)
-bytes-append [] back f b = b
-bytes-append (byte ∷ front) back f b = bytes-cons byte (front ++ back) (f 0) (bytes-append front back (λ i. f (suc i)) b)
 
 pub zeros-bytes : (n : ℕ) → Bytes (replicate n 0)
 zeros-bytes zero = λ i. omega arith

@@ -15,6 +15,8 @@ use Rattle.request.specs.Requests.{Request}
 use Rattle.request.specs.Asking.{Sized}
 use Rattle.volume.specs.declared.Bookmark.{Bookmark}
 use Rattle.request.proofs.Asked.{one-block}
+use Rattle.request.proofs.Sizes.{rules-sized}
+use Rattle.volume.proofs.Appending.{header-sized}
 use Rattle.claims.specs.Library.{ours}
 use Rattle.claims.specs.Demand3Reading.{ReaderGives}
 use Rattle.claims.specs.Demand3.{Outcome, appends, written, VolumeClaim, Start, extended, AcceptedVolume, AppendsClaim, Demand3}
@@ -80,4 +82,6 @@ demand-3-holds =
       refused-volumes = refused-volumes;
       lists-of-appends = appends-claim;
       one-block-asked-for = λ request a b p k q l. one-block request a b (record { asks = p; keeps = k }) (record { asks = q; keeps = l });
+      every-block-can-be-asked-for = rules-sized;
+      every-header-can-be-asked-for = header-sized;
     }

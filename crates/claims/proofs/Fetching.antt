@@ -28,6 +28,7 @@ use Rattle.lookup.specs.declared.Stored.{Stored}
 use Rattle.lookup.specs.declared.PositionAnswer.{PositionAnswer as Answer}
 use Rattle.lookup.specs.declared.PositionAnswer.the-variants as PositionAnswer
 use Rattle.lookup.specs.declared.RunsAnswer.the-variants as RunsAnswer
+use Rattle.claims.specs.Library.{ours}
 use Rattle.claims.specs.Demand2.{extentOf, TrueLengths, IsHole, IsStored, Demand2For}
 use Rattle.claims.specs.Demand2.{Says, a-hole, a-byte, RunsSay, over, run, RangeClaim}
 use Rattle.claims.specs.Fetching.{Lent, refusal, fetched, HasNumber, Whichever, the-first, the-second, FetchClaim}
@@ -124,13 +125,13 @@ module _ (volume : List ℕ) (offset : ℕ) (lengths : List ℕ) where
   StoredRun start len number place =
       (0 < len) × ((k : ℕ) → k < len → positionAnswer volume offset lengths (start + k) ≡ storedAt number (place + k))
 
-  numbers-long : {from to : ℕ} {runs numbers : List ℕ} → RunsSay volume offset lengths from to runs numbers
+  numbers-long : {from to : ℕ} {runs numbers : List ℕ} → RunsSay ours volume offset lengths from to runs numbers
       → length numbers ≡ 5 * length runs
   numbers-long (over l) = refl
   numbers-long (run more within all rest) = omega (arith, numbers-long rest)
 
   -- the run at an index: its numbers are the five that stand there
-  run-at : {from to : ℕ} {runs numbers : List ℕ} → RunsSay volume offset lengths from to runs numbers
+  run-at : {from to : ℕ} {runs numbers : List ℕ} → RunsSay ours volume offset lengths from to runs numbers
       → (index start len number place : ℕ) → index < length runs
       → part numbers (5 * index) 5 ≡ start ∷ len ∷ 1 ∷ number ∷ place ∷ []
       → StoredRun start len number place
@@ -156,7 +157,7 @@ same-count e = cc
 -- What Demand 2 says of a place that lookup names.
 module _ (volume : List ℕ) (offset : ℕ) (lengths : List ℕ) (volumes : ℕ → List ℕ) (b : Bytes volume)
     (true-lengths : TrueLengths lengths volumes) where
-  demand : Demand2For volume offset lengths
+  demand : Demand2For ours volume offset lengths
   demand = demand-2-holds volume offset lengths b
 
   -- it lies inside the volume that is named with it
@@ -165,18 +166,18 @@ module _ (volume : List ℕ) (offset : ℕ) (lengths : List ℕ) (volumes : ℕ 
   inside position number place e =
       ⊎-elim
       (λ no.
-      let refused = demand .refused-otherwise (eqb-false (lookupFault volume offset lengths) 0 no) .positions position in
+      let refused = demand .refused-otherwise (λ all. eqb-false (lookupFault volume offset lengths) 0 no (demand .no-fault-iff-all-is-there .1 all)) .positions position in
       let z : _≡_ {A = ℕ} 0 1 = cc in absurd (omega arith))
       (λ yes.
-      let claim = demand .what-then-holds (eqb-true (lookupFault volume offset lengths) 0 yes) in
+      let claim = demand .answered (demand .no-fault-iff-all-is-there .0 (eqb-true (lookupFault volume offset lengths) 0 yes)) in
       ⊎-elim
       (λ no.
       let past = claim .past-the-end position (ltb-false position (sizeAt volume offset) no) in
       let z : _≡_ {A = ℕ} 0 1 = cc in absurd (omega arith))
       (λ yes.
       ⊎-elim
-      (λ (hole : IsHole volume offset lengths position). let h = hole .answer in let z : _≡_ {A = ℕ} 0 1 = cc in absurd (omega arith))
-      (λ (stored : IsStored volume offset lengths position).
+      (λ (hole : IsHole ours volume offset lengths position). let h = hole .answer in let z : _≡_ {A = ℕ} 0 1 = cc in absurd (omega arith))
+      (λ (stored : IsStored ours volume offset lengths position).
       let same = same-place (sym e ∙ stored .answer) in
       let n : number ≡ extentOf volume offset (stored .keeper) .volume = ap (λ (x : Stored). x .volume) same in
       let p : place ≡ stored .place = ap (λ (x : Stored). x .offset .0) same in
@@ -236,11 +237,11 @@ module _ (volume : List ℕ) (offset : ℕ) (lengths : List ℕ) (volumes : ℕ 
   the-bytes-of-a-run from to out count index start len number place first second answered h e lends =
       ⊎-elim
       (λ no.
-      let refused = demand .refused-otherwise (eqb-false (lookupFault volume offset lengths) 0 no) .ranges from to out .0 in
+      let refused = demand .refused-otherwise (λ all. eqb-false (lookupFault volume offset lengths) 0 no (demand .no-fault-iff-all-is-there .1 all)) .ranges from to out .0 in
       let z : _≡_ {A = ℕ} 0 1 = cc in absurd (omega arith))
       (λ yes.
-      let claim : RangeClaim volume offset lengths from to
-      = demand .what-then-holds (eqb-true (lookupFault volume offset lengths) 0 yes) .ranges from to in
+      let claim : RangeClaim ours volume offset lengths from to
+      = demand .answered (demand .no-fault-iff-all-is-there .0 (eqb-true (lookupFault volume offset lengths) 0 yes)) .ranges from to in
       ⊎-elim
       (λ no.
       let fills = claim .room-enough out (ltb-false (length out) (5 * length (claim .runs)) no) in

@@ -5,6 +5,7 @@ use mathlib.Core.Bool.{true≢false}
 use mathlib.Core.List.{List, [], _∷_, _++_}
 use native.Mathlib.Omega.{arith}
 use lib.ListN.{length, replicate, getD, length-append}
+use Rattle.number.proofs.Digits.{bytes-append}
 use Rattle.number.specs.Number.{leBytes}
 use Rattle.format.specs.Layout.{laid, sealed}
 use Rattle.format.specs.Blocks.{Block, Data, image}
@@ -24,7 +25,7 @@ use Rattle.volume.proofs.Appending.{admitted-appended}
 use Rattle.claims.specs.Demand3Reading.{ReaderGives}
 use Rattle.claims.specs.Demand3.{extended, Judged, none-left, accepted, refused, NoTableDue, appends, Start, from-volume, Demand3}
 use Rattle.claims.specs.Wrong.{storesNothing, alwaysDue}
-use Rattle.claims.proofs.Bytes.{bytes-append, zeros-bytes, volume-bytes}
+use Rattle.claims.proofs.Bytes.{zeros-bytes, volume-bytes}
 use Rattle.claims.proofs.Demand3Reading.{reading-gives, check-answers}
 use Rattle.claims.proofs.Tried.{bare, first-rules, bare-keeps, bare-long, whole, of-bare, data-rules}
 

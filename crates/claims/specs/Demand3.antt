@@ -10,7 +10,7 @@ use lib.ListN.{length, take, drop}
 use Rattle.number.specs.Number.{Bytes}
 use Rattle.format.specs.Layout.{All}
 use Rattle.format.specs.Blocks.{Block, BlockRules}
-use Rattle.format.specs.Headers.{Header}
+use Rattle.format.specs.Headers.{Header, HeaderRules}
 use Rattle.format.specs.Readings.{Reading, TableRule, Keeps, images, volumeOf, ReadingOf}
 use Rattle.block.specs.Shown.{shown}
 use Rattle.volume.specs.Heading.{firstMark}
@@ -169,7 +169,8 @@ module _ (library : Library) where
         → StillRead (take (mark .offset) buffer) (written outcome) at found
 
   -- Demand 3: the first holds of every volume of at most 16,777,216 bytes, the second of every volume, the third of every start and
-  -- every list of appends. The last makes "its block" of a request one block.
+  -- every list of appends. The next makes "its block" of a request one block. The last two say that `Sized` and `SizedHeader` leave out
+  -- nothing that the rules allow; that they leave out no call is in the calls' own contracts.
   pub record Demand3 : Type 0 where
     pub volumes : (volume : List ℕ) → Bytes volume → length volume ≤ 16777216 → VolumeClaim volume
     pub refused-volumes : RefusedVolumes library
@@ -186,3 +187,5 @@ module _ (library : Library) where
         → requestFor b ≡ request
         → BlockRules b
         → a ≡ b
+    pub every-block-can-be-asked-for : (block : Block) → BlockRules block → Sized (requestFor block)
+    pub every-header-can-be-asked-for : (header : Header) → HeaderRules header → SizedHeader header
