@@ -129,7 +129,7 @@ inventsListedBlocks =
     answering (ours .read) (ours .check) (ours .headerBuffer) (ours .append) (ours .appendBuffer) (ours .position)
     (λ out volume. put out 0 (headingLine ++ endLine (length volume) 7))
 
--- Wrong beside what is read.
+-- Wrong in one place.
 
 -- a hole wherever a lookup is to be refused
 abbrev pub holeFor : PositionAnswer → PositionAnswer
