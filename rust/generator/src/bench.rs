@@ -1,4 +1,4 @@
-//! Inputs for benchmarks. All are accepted and all have 16 MiB.
+//! Inputs for benchmarks. All are accepted, and all volumes but that of [`copies`] have 16 MiB.
 
 use crate::image::{self, Extent, Stat, COUNTED, LIMIT, REPEATED};
 use crate::rng::Rng;
@@ -180,4 +180,95 @@ pub fn table_of(order: Order, links: u64, length: usize) -> Vec<u8> {
     volume.extend_from_slice(&image::table(links, &list.concat()));
     fill(&mut volume, 1);
     volume
+}
+
+/// The inode number of the file in [`archive`] and in [`copies`].
+pub const FILE: u64 = 7;
+
+/// How many volumes [`archive`] has.
+pub const ARCHIVE_VOLUMES: u64 = 40;
+
+/// How many of them hold bytes of the file: every second one.
+pub const ARCHIVE_SOURCES: u64 = 20;
+
+/// How many extents the file of [`archive`] has, and the bytes of each.
+pub const ARCHIVE_EXTENTS: u64 = 1_024;
+pub const ARCHIVE_EXTENT_SIZE: u64 = 4_096;
+
+/// A set of 40 volumes, made one at a time since they take 640 MiB together. The file's extents go
+/// round robin through 20 of them, and its inode stands in the last one.
+pub fn archive() -> impl ExactSizeIterator<Item = Vec<u8>> {
+    (0..ARCHIVE_VOLUMES as usize).map(|sequence| archive_volume(sequence as u64))
+}
+
+/// The volume of [`archive`] with this number. No two hold the same data.
+pub fn archive_volume(sequence: u64) -> Vec<u8> {
+    let mut volume = start(sequence);
+    if sequence > 0 {
+        let link = image::table_link(FILE, 1, b"gauge.csv");
+        volume.extend_from_slice(&image::table(1, &link));
+    }
+    if sequence == ARCHIVE_VOLUMES - 1 {
+        let list: Vec<Extent> = (0..ARCHIVE_EXTENTS).map(archive_extent).collect();
+        let size = ARCHIVE_EXTENTS * ARCHIVE_EXTENT_SIZE;
+        volume.extend_from_slice(&file(1, size, &list));
+    }
+    // The data follows from the time, so each volume has a time of its own.
+    fill(&mut volume, 2 + sequence);
+    volume
+}
+
+/// An extent of the file in [`archive`].
+pub fn archive_extent(k: u64) -> Extent {
+    Extent {
+        volume: k % ARCHIVE_SOURCES * (ARCHIVE_VOLUMES / ARCHIVE_SOURCES),
+        start: 1_000 + k / ARCHIVE_SOURCES * 300_000,
+        size: ARCHIVE_EXTENT_SIZE,
+        multiplicity: COUNTED,
+        count: 1,
+        pre: 0,
+        post: 0,
+        logical: k * ARCHIVE_EXTENT_SIZE,
+    }
+}
+
+/// How many copies of one byte the file of [`copies`] has.
+pub const COPIES: u64 = 20_000_000;
+
+/// The byte that is copied.
+pub const COPIED: u8 = b'7';
+
+/// Where the inode block stands in [`copies`]: after a data block of one byte.
+pub const COPIES_OFFSET: u64 = 80 + 22;
+
+/// A short volume with a file of very many copies of one byte, each a run of its own.
+pub fn copies() -> Vec<u8> {
+    let mut volume = image::header(0, &[7; 16], &[0; 32]);
+    let byte = Extent {
+        volume: 0,
+        start: 80 + 17,
+        size: 1,
+        multiplicity: REPEATED,
+        count: COPIES,
+        pre: 0,
+        post: 0,
+        logical: 0,
+    };
+    volume.extend_from_slice(&image::data(1, &[COPIED]));
+    volume.extend_from_slice(&file(2, COPIES, &[byte]));
+    volume
+}
+
+/// The inode block of the file.
+fn file(time: u64, size: u64, list: &[Extent]) -> Vec<u8> {
+    let stat = Stat {
+        inode: FILE,
+        time,
+        mode: 0x81A4,
+        uid: 1,
+        gid: 1,
+        stamps: [time; 4],
+        size,
+    };
+    image::inode(&stat, &image::extent_bytes(list))
 }

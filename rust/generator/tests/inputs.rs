@@ -1,7 +1,10 @@
 //! The inputs of the benchmarks are what they claim to be.
 
-use generator::bench::{inodes, inputs, lengths, Order};
-use independent::{check, lookup, run_count, Place, Verdict, VOLUME_LIMIT};
+use generator::bench::{
+    archive, archive_extent, archive_volume, copies, inodes, inputs, lengths, Order, COPIED,
+    COPIES, COPIES_OFFSET,
+};
+use independent::{check, lookup, read_header, run_count, Place, Verdict, VOLUME_LIMIT};
 
 #[test]
 fn all_are_accepted_and_full() {
@@ -30,4 +33,60 @@ fn files_can_be_looked_up() {
         let count = run_count(&volume, 80, &lengths(), 0, u64::MAX);
         assert_eq!(count, Ok(512 * (1 + 3) + 1_024));
     }
+}
+
+/// The volumes at both ends and in the middle stand for all forty.
+#[test]
+fn the_archive_is_a_set_of_full_volumes() {
+    assert_eq!(archive().len(), 40);
+    for sequence in [0, 1, 38, 39] {
+        let volume = archive_volume(sequence);
+        assert_eq!(volume.len(), VOLUME_LIMIT);
+        let header = read_header(&volume).expect("a sound header");
+        assert_eq!((header.sequence, header.id), (sequence, &[7; 16]));
+        assert!(matches!(check(&volume), Verdict::Accepted { .. }));
+    }
+}
+
+#[test]
+fn the_file_of_the_archive_goes_through_twenty_volumes() {
+    let last = archive_volume(39);
+    let lengths = [VOLUME_LIMIT as u64; 40].map(u64::to_le_bytes).concat();
+    let inode = 80 + 40;
+    let mut volumes = std::collections::BTreeSet::new();
+    for k in 0..1_024 {
+        let extent = archive_extent(k);
+        assert_eq!(extent.volume, k % 20 * 2);
+        let stored = |more| Place::Stored {
+            volume: extent.volume,
+            offset: extent.start + more,
+        };
+        let at = |position| lookup(&last, inode, &lengths, position);
+        assert_eq!(at(4_096 * k), Ok(stored(0)));
+        assert_eq!(at(4_096 * k + 4_095), Ok(stored(4_095)));
+        volumes.insert(extent.volume);
+    }
+    assert_eq!(volumes.len(), 20);
+    let count = run_count(&last, inode, &lengths, 0, u64::MAX);
+    assert_eq!(count, Ok(1_024));
+}
+
+#[test]
+fn each_copy_is_a_run() {
+    let volume = copies();
+    let blocks = match check(&volume) {
+        Verdict::Accepted { blocks, .. } => blocks,
+        refused => panic!("{refused:?}"),
+    };
+    assert_eq!(blocks, 2);
+    let lengths = (volume.len() as u64).to_le_bytes();
+    let count = run_count(&volume, COPIES_OFFSET, &lengths, 0, u64::MAX);
+    assert_eq!(count, Ok(COPIES));
+    let stored = Place::Stored {
+        volume: 0,
+        offset: 97,
+    };
+    let last = lookup(&volume, COPIES_OFFSET, &lengths, COPIES - 1);
+    assert_eq!(last, Ok(stored));
+    assert_eq!(volume[97], COPIED);
 }
