@@ -12,6 +12,7 @@
 pub mod block;
 mod bytes;
 pub mod check;
+pub mod content;
 pub mod crc;
 pub mod extent;
 pub mod fetch;
@@ -21,17 +22,20 @@ pub mod listing;
 pub mod lookup;
 pub mod refusal;
 pub mod runs;
+pub mod set;
 pub mod utf8;
 pub mod write;
 
 pub use block::{read, read_with, Block, Body, Bookmark, Part, Reading, Stat};
 pub use check::{check, check_with, Verdict};
+pub use content::{Beyond, File, FileRefusal, Lacking};
 pub use extent::Extent;
 pub use fetch::fetch;
 pub use header::{read_header, Header};
 pub use listing::listing;
 pub use lookup::{lookup, lookup_with, Place};
 pub use runs::{run_count, runs, runs_with};
+pub use set::{set_faults, Inode, LastLink, Set, SetFault};
 pub use write::{
     append_data, append_inode, append_link, append_removed_xattr, append_rename, append_table,
     append_unlink, append_xattr, write_header,
