@@ -3,6 +3,8 @@
 //! Nothing here is shared with an implementation under test, the checksum
 //! included.
 
+use std::ops::Range;
+
 pub const LIMIT: usize = 16_777_216;
 
 pub const INODE: u8 = 1;
@@ -13,6 +15,11 @@ pub const REMOVED: u8 = 5;
 pub const DATA: u8 = 6;
 pub const RENAME: u8 = 7;
 pub const TABLE: u8 = 8;
+
+/// Where a header has its file system ID, its sequence number and the previous hash.
+pub const FILE_SYSTEM: Range<usize> = 18..34;
+pub const SEQUENCE: Range<usize> = 36..44;
+pub const PREVIOUS: Range<usize> = 44..76;
 
 pub const COUNTED: u8 = b'C';
 pub const REPEATED: u8 = b'R';

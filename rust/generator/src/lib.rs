@@ -6,6 +6,7 @@
 
 #![forbid(unsafe_code)]
 
+pub mod archive;
 pub mod bench;
 pub mod damage;
 pub mod draft;
