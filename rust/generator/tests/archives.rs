@@ -4,7 +4,7 @@ use std::collections::BTreeMap;
 
 use generator::archive::{archive, describe, Archive, Kind};
 use independent::extent::{extents, REPEATED};
-use independent::{lookup, runs, set_faults, Extent, File, Inode, LastLink, Place};
+use independent::{lookup, runs, set_faults, Extent, File, Inode, Place};
 use independent::{Set, SetFault};
 
 const SEEDS: u64 = 3_000;
@@ -79,8 +79,9 @@ impl Found {
             self.note("symbolic link", kind == 10);
             self.note("other type", kind != 10 && kind != 8);
             self.note("no link", inode.last_link.is_none());
-            self.note("linked", inode.last_link == Some(LastLink::Made));
-            self.note("unlinked", inode.last_link == Some(LastLink::TakenAway));
+            let taken_away = inode.last_link.map(|link| link.taken_away);
+            self.note("linked", taken_away == Some(false));
+            self.note("unlinked", taken_away == Some(true));
             self.superseded(set, number, inode);
             match set.file(number) {
                 Ok(file) => self.file(inode, &file),

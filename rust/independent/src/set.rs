@@ -94,13 +94,13 @@ fn blocks(volume: &[u8]) -> Vec<Block<'_>> {
     blocks
 }
 
-/// What happened last to the links that have an inode as their child.
+/// The link that was made or taken away last, of all with an inode as child.
 #[derive(Clone, Copy, Debug, PartialEq, Eq)]
-pub enum LastLink {
-    /// A link was made, or stands in a table.
-    Made,
-    /// A link was taken away.
-    TakenAway,
+pub struct LastLink<'a> {
+    /// Whether it was taken away. A link in a table was made.
+    pub taken_away: bool,
+    pub parent: u64,
+    pub name: &'a [u8],
 }
 
 /// The current inode block of an inode number.
@@ -113,7 +113,7 @@ pub struct Inode<'a> {
     /// Extents, a link target or nothing.
     pub variable: Part<'a>,
     /// Nothing if no link names it.
-    pub last_link: Option<LastLink>,
+    pub last_link: Option<LastLink<'a>>,
 }
 
 /// Accepted volumes with one file system ID and different sequence numbers.
@@ -206,21 +206,35 @@ fn inodes<'a>(volumes: &BTreeMap<u64, &'a [u8]>) -> BTreeMap<u64, Inode<'a>> {
     inodes
 }
 
-/// What happened last to the links to each inode. The links of a table stand
-/// before the other blocks of its volume: it says what the volume starts with.
-fn last_links(volumes: &BTreeMap<u64, &[u8]>) -> BTreeMap<u64, LastLink> {
+/// The last link of each child. The links of a table stand in their order
+/// before the other blocks of the volume: they are what the volume starts with.
+fn last_links<'a>(volumes: &BTreeMap<u64, &'a [u8]>) -> BTreeMap<u64, LastLink<'a>> {
     let mut last = BTreeMap::new();
+    let mut note = |taken_away, child, parent, name| {
+        let link = LastLink {
+            taken_away,
+            parent,
+            name,
+        };
+        last.insert(child, link);
+    };
     for bytes in volumes.values() {
         for block in blocks(bytes) {
             match block.body {
-                Body::Link { child, .. } => {
-                    last.insert(child, LastLink::Made);
-                }
-                Body::Unlink { child, .. } => {
-                    last.insert(child, LastLink::TakenAway);
-                }
+                Body::Link {
+                    child,
+                    parent,
+                    name,
+                } => note(false, child, parent, name.bytes),
+                Body::Unlink {
+                    child,
+                    parent,
+                    name,
+                } => note(true, child, parent, name.bytes),
                 Body::Table { links, .. } => {
-                    last.extend(Links::new(links.bytes).map(|link| (link.child, LastLink::Made)));
+                    for link in Links::new(links.bytes) {
+                        note(false, link.child, link.parent, link.name);
+                    }
                 }
                 _ => {}
             }

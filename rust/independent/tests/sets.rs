@@ -280,27 +280,27 @@ fn missing_numbers() {
     assert_eq!(missing(&[TOP - 1, TOP]), [0..=TOP - 2]);
 }
 
-/// The last link of inode 5 and of inode 6 in a set.
-fn last_links(volumes: &[Vec<u8>]) -> [Option<LastLink>; 2] {
+/// Whether the last link of inode 5 and that of inode 6 were taken away.
+fn taken_away(volumes: &[Vec<u8>]) -> [Option<bool>; 2] {
     let lent: Vec<&[u8]> = volumes.iter().map(Vec::as_slice).collect();
     let set = set(&lent);
-    [5, 6].map(|number| set.inodes()[&number].last_link)
+    [5, 6].map(|number| set.inodes()[&number].last_link.map(|link| link.taken_away))
 }
 
 #[test]
 fn the_last_link_decides() {
     let inodes = [regular(1, 0, &[]), numbered(6, regular(2, 0, &[]))];
     let first = |more: &[Vec<u8>]| volume(0, &[&inodes, more].concat());
-    let (made, away) = (Some(LastLink::Made), Some(LastLink::TakenAway));
-    assert_eq!(last_links(&[first(&[])]), [None, None]);
+    let (made, away) = (Some(false), Some(true));
+    assert_eq!(taken_away(&[first(&[])]), [None, None]);
     let unlinked = first(&[link(2, 3, b"n"), link(3, 4, b"n")]);
-    assert_eq!(last_links(std::slice::from_ref(&unlinked)), [away, None]);
+    assert_eq!(taken_away(std::slice::from_ref(&unlinked)), [away, None]);
     let linked = first(&[
         link(3, 3, b"n"),
         of_child(6, link(3, 4, b"")),
         link(2, 5, b"m"),
     ]);
-    assert_eq!(last_links(std::slice::from_ref(&linked)), [made, away]);
+    assert_eq!(taken_away(std::slice::from_ref(&linked)), [made, away]);
 
     // A higher volume decides, whatever its times; a parent is no child.
     let later = volume(
@@ -311,14 +311,33 @@ fn the_last_link_decides() {
             link(3, 1, b"m"),
         ],
     );
-    assert_eq!(last_links(&[later, linked.clone()]), [away, made]);
+    assert_eq!(taken_away(&[later, linked.clone()]), [away, made]);
     let by_parent = volume(1, &[table(1, &table_link(1, 6, b"up"))]);
-    assert_eq!(last_links(&[linked.clone(), by_parent]), [made, away]);
+    assert_eq!(taken_away(&[linked.clone(), by_parent]), [made, away]);
 
     // Links of a table stand before the blocks of their volume.
     let links = [table_link(5, 1, b"a"), table_link(6, 1, b"b")].concat();
     let with_table = volume(1, &[table(2, &links)]);
-    assert_eq!(last_links(&[unlinked.clone(), with_table]), [made, made]);
+    assert_eq!(taken_away(&[unlinked.clone(), with_table]), [made, made]);
     let and_away = volume(1, &[table(2, &links), link(3, 0, b"a")]);
-    assert_eq!(last_links(&[and_away, unlinked]), [away, made]);
+    assert_eq!(taken_away(&[and_away, unlinked]), [away, made]);
+}
+
+#[test]
+fn the_last_link_has_a_name() {
+    let links = [table_link(5, 8, b"b"), table_link(5, 9, b"a")].concat();
+    let one = volume(1, &[table(2, &links), regular(1, 0, &[])]);
+    let by_table = LastLink {
+        taken_away: false,
+        parent: 9,
+        name: b"a",
+    };
+    assert_eq!(set(&[&one]).inodes()[&5].last_link, Some(by_table));
+    let two = volume(2, &[table(0, b""), link(3, 0, "ä".as_bytes())]);
+    let by_block = LastLink {
+        taken_away: true,
+        parent: 1,
+        name: b"\xc3\xa4",
+    };
+    assert_eq!(set(&[&one, &two]).inodes()[&5].last_link, Some(by_block));
 }
