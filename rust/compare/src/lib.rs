@@ -18,12 +18,14 @@
 #![forbid(unsafe_code)]
 
 pub mod answers;
+pub mod archives;
 pub mod blocks;
 pub mod case;
 mod difference;
 pub mod fetching;
 pub mod files;
 pub mod items;
+pub mod json;
 mod lent;
 pub mod links;
 pub mod requests;

@@ -1,0 +1,3 @@
+//! Archives: what a set of volumes holds, by both sides.
+
+pub mod reading;
