@@ -84,7 +84,12 @@ impl Found {
             self.note("unlinked", taken_away == Some(true));
             self.superseded(set, number, inode);
             match set.file(number) {
-                Ok(file) => self.file(inode, &file),
+                Ok(file) => {
+                    let far = set.volumes().keys().any(|&sequence| sequence >= 4_096);
+                    let stored = file.runs(0, 99).iter().any(|run| run[2] == 1);
+                    self.note("stored beside a far volume", far && stored);
+                    self.file(inode, &file);
+                }
                 Err(independent::FileRefusal::NotThere(lacking)) => {
                     self.note("lacks volumes", !lacking.volumes.is_empty());
                     self.note("reaches beyond", !lacking.beyond.is_empty());
