@@ -51,7 +51,7 @@ pub fn open(files: &[PathBuf], number: u64) -> Result<(Archive, Inode), Failure>
     let mut current: Option<Inode> = None;
     for path in files {
         let volume = input::read(path)?;
-        let checked = Volume::check(&volume).map_err(|refusal| refused(path, refusal))?;
+        let checked = Volume::check(&volume).map_err(|rejected| refused(path, rejected.refusal))?;
         let sequence = checked.sequence();
         archive.add(path, sequence, volume.len() as u64)?;
         if current

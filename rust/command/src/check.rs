@@ -61,9 +61,9 @@ fn work(files: &[PathBuf], next: &AtomicUsize, sender: Sender<(usize, Verdict)>)
 
 fn check(path: &Path, buffer: &mut Vec<u8>) -> Verdict {
     input::read_into(path, buffer)?;
-    let checked = Volume::check(buffer).map_err(|refusal| Failure::Refused {
+    let checked = Volume::check(buffer).map_err(|rejected| Failure::Refused {
         path: path.to_path_buf(),
-        refusal,
+        refusal: rejected.refusal,
     })?;
     Ok(Sound {
         sequence: checked.sequence(),

@@ -130,10 +130,7 @@ mod tests {
 
     #[test]
     fn a_refusal_is_one_line_with_words() {
-        let refusal = Refusal {
-            number: 5,
-            offset: 80,
-        };
+        let refusal = Refusal::new(5, 80);
         let path = PathBuf::from("a.vol");
         let failure = Failure::Refused { path, refusal };
         assert_eq!(

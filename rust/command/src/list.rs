@@ -53,7 +53,7 @@ fn end_line(end: u64, count: u64, json: bool) -> String {
 /// Ends the listing with the refusal. The form of its last line has no place for the name and the
 /// words, which are said with the failure.
 fn refuse(mut lines: Lines, path: &Path, refusal: Refusal, json: bool) -> Result<Status, Failure> {
-    let Refusal { number, offset } = refusal;
+    let Refusal { number, offset, .. } = refusal;
     if !json {
         lines.put(&format!("refused {number} at {offset}\n"))?;
     }

@@ -64,7 +64,10 @@ fn read_again(member: &Member) -> Result<Vec<u8>, Failure> {
     let path = member.path.clone();
     let volume = input::read(&path)?;
     match Volume::check(&volume) {
-        Err(refusal) => Err(Failure::Refused { path, refusal }),
+        Err(rejected) => {
+            let refusal = rejected.refusal;
+            Err(Failure::Refused { path, refusal })
+        }
         Ok(checked)
             if (checked.sequence(), volume.len() as u64) != (member.sequence, member.len) =>
         {

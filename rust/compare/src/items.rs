@@ -48,7 +48,7 @@ impl<'a> Asked<'a> {
         match self.expected(from, to) {
             Err(number) => {
                 let offset = self.offset;
-                let only = [Err(Refusal { number, offset })];
+                let only = [Err(Refusal::new(number, offset))];
                 same_list(&runs.collect::<Vec<_>>(), &only, question)?;
                 Ok(0)
             }
@@ -112,7 +112,7 @@ pub fn position(asked: &Asked<'_>, position: u64) -> Result<(), Difference> {
         }),
     });
     let offset = asked.offset;
-    let expected = expected.map_err(|number| Refusal { number, offset });
+    let expected = expected.map_err(|number| Refusal::new(number, offset));
     same(place, expected, || {
         format!("File::position {position} at {offset}")
     })

@@ -27,7 +27,7 @@ pub fn blocks(volume: &[u8]) -> Result<(), Difference> {
 
 /// The same by the independent implementation.
 fn expected(volume: &[u8]) -> Vec<Step<'_>> {
-    let refused = |number, offset| Err(Refusal { number, offset });
+    let refused = |number, offset| Err(Refusal::new(number, offset));
     let mut mark = match independent::read_header(volume) {
         Ok(header) => header.next,
         Err(number) => return vec![refused(number, 0)],
@@ -74,28 +74,28 @@ fn body<'a>(volume: &'a [u8], content: Content<'a>, time: u64) -> Body<'a> {
         Content::Link(link) => Body::Link {
             child: link.child,
             parent: link.parent,
-            name: part(link.name),
+            name: part(link.name.as_bytes()),
         },
         Content::Unlink(link) => Body::Unlink {
             child: link.child,
             parent: link.parent,
-            name: part(link.name),
+            name: part(link.name.as_bytes()),
         },
         Content::Xattr { inode, name, value } => Body::Xattr {
             inode,
-            name: part(name),
+            name: part(name.as_bytes()),
             value: part(value),
         },
         Content::RemovedXattr { inode, name } => Body::RemovedXattr {
             inode,
-            name: part(name),
+            name: part(name.as_bytes()),
         },
         Content::Data { payload } => Body::Data {
             payload: part(payload),
         },
         Content::Rename { old, new } => Body::Rename {
-            old: part(old),
-            new: part(new),
+            old: part(old.as_bytes()),
+            new: part(new.as_bytes()),
         },
         Content::LinkTable(table) => Body::Table {
             count: table.len() as u64,
@@ -126,7 +126,7 @@ fn links(table: &LinkTable<'_>) -> Result<(), Difference> {
         .map(|link| Link {
             child: link.child,
             parent: link.parent,
-            name: link.name,
+            name: link.name.as_bytes(),
         })
         .collect();
     let expected: Vec<Link<'_>> = Links::new(table.bytes()).collect();

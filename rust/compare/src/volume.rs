@@ -38,11 +38,10 @@ pub fn typed(volume: &[u8]) -> Result<(), Difference> {
             blocks: checked.block_count(),
             end: bookmark(checked.end()),
         },
-        Err(refusal) => Verdict::Refused {
-            number: refusal.number,
-            offset: refusal.offset,
-            // A refusal does not tell how many there were.
-            blocks: sys::check_blocks(volume),
+        Err(rejected) => Verdict::Refused {
+            number: rejected.refusal.number,
+            offset: rejected.refusal.offset,
+            blocks: rejected.blocks,
         },
     };
     let expected = independent::check(volume);

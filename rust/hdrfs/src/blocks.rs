@@ -14,6 +14,14 @@ pub(crate) fn part(bytes: &[u8], at: u64, len: u64) -> &[u8] {
     &bytes[from..from + len as usize]
 }
 
+/// A name, path or target of an accepted block.
+pub(crate) fn text(bytes: &[u8]) -> &str {
+    // The library accepts a block only if all text in it is UTF-8, by the rules that `str` has.
+    // Asking once more costs little beside the checksum that was taken over the same bytes, and
+    // needs no trust.
+    std::str::from_utf8(bytes).expect("text of an accepted block is UTF-8")
+}
+
 /// A block of a volume.
 ///
 /// ```
@@ -60,8 +68,7 @@ impl Block<'_> {
     }
 }
 
-/// What a block says. All that is text in it is UTF-8: the library has checked
-/// that.
+/// What a block says.
 ///
 /// ```
 /// use hdrfs::{Content, Volume};
@@ -70,7 +77,7 @@ impl Block<'_> {
 /// let bytes = std::fs::read("all_kinds.vol")?;
 /// let last = Volume::blocks(&bytes).last().unwrap()?;
 /// let Content::Rename { old, new } = last.content else { panic!("no rename") };
-/// assert_eq!((std::str::from_utf8(old)?, std::str::from_utf8(new)?), ("gauge", "pégel"));
+/// assert_eq!((old, new), ("gauge", "pégel"));
 /// # Ok::<(), Box<dyn std::error::Error>>(())
 /// ```
 #[derive(Clone, Copy, Debug, PartialEq, Eq)]
@@ -86,7 +93,7 @@ pub enum Content<'a> {
         /// Whose attribute it is.
         inode: u64,
         /// Its name.
-        name: &'a [u8],
+        name: &'a str,
         /// Its value, which may be any bytes.
         value: &'a [u8],
     },
@@ -95,7 +102,7 @@ pub enum Content<'a> {
         /// Whose attribute it was.
         inode: u64,
         /// Its name.
-        name: &'a [u8],
+        name: &'a str,
     },
     /// Stored bytes, to which extents point.
     Data {
@@ -105,9 +112,9 @@ pub enum Content<'a> {
     /// A path that changed.
     Rename {
         /// The path before.
-        old: &'a [u8],
+        old: &'a str,
         /// The path after.
-        new: &'a [u8],
+        new: &'a str,
     },
     /// The links at the beginning of a volume above 0.
     LinkTable(LinkTable<'a>),
@@ -189,25 +196,28 @@ fn content<'a>(volume: &'a [u8], block: &sys::Block) -> Content<'a> {
     let first = part(volume, block.part, block.part_len);
     let second = part(volume, block.second, block.second_len);
     let inode = block.inode;
-    let link = Link {
+    let link = || Link {
         child: block.child,
         parent: block.parent,
-        name: first,
+        name: text(first),
     };
     match block.id {
         1 => Content::Inode(Inode::new(block, first)),
-        2 => Content::Link(link),
-        3 => Content::Unlink(link),
+        2 => Content::Link(link()),
+        3 => Content::Unlink(link()),
         4 => Content::Xattr {
             inode,
-            name: first,
+            name: text(first),
             value: second,
         },
-        5 => Content::RemovedXattr { inode, name: first },
+        5 => Content::RemovedXattr {
+            inode,
+            name: text(first),
+        },
         6 => Content::Data { payload: first },
         7 => Content::Rename {
-            old: first,
-            new: second,
+            old: text(first),
+            new: text(second),
         },
         8 => Content::LinkTable(LinkTable::new(first, block.count)),
         other => unreachable!("the library accepted a block of kind {other}"),

@@ -50,10 +50,7 @@ impl Lengths {
     /// ```
     pub fn set(&mut self, sequence: u64, len: u64) -> Result<(), Refusal> {
         if sequence >= MAX_ENTRIES {
-            return Err(Refusal {
-                number: Refusal::OVER_LIMIT,
-                offset: 0,
-            });
+            return Err(Refusal::new(Refusal::OVER_LIMIT, 0));
         }
         let at = sequence as usize * ENTRY_LEN;
         let needed = at + ENTRY_LEN;

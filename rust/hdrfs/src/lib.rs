@@ -60,7 +60,7 @@ pub use fetch::fetch;
 pub use file::{File, Logical, Physical, Place, Stored};
 pub use lengths::Lengths;
 pub use links::{Link, LinkTable, Links};
-pub use refusal::Refusal;
+pub use refusal::{Refusal, Rejected};
 pub use runs::{Run, Runs};
 pub use volume::{Checked, Heading, Volume, MAX_VOLUME_LEN};
 pub use writer::Writer;

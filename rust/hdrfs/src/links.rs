@@ -2,7 +2,7 @@
 
 use std::iter::FusedIterator;
 
-use crate::blocks::part;
+use crate::blocks::{part, text};
 use crate::sys;
 
 /// One link: a name under a parent, and what it stands for.
@@ -14,7 +14,7 @@ use crate::sys;
 /// let bytes = std::fs::read("all_kinds.vol")?;
 /// let block = Volume::blocks(&bytes).nth(4).unwrap()?;
 /// let Content::Link(link) = block.content else { panic!("no link") };
-/// assert_eq!((link.child, link.parent, link.name), (8, 1, &b"gauge"[..]));
+/// assert_eq!((link.child, link.parent, link.name), (8, 1, "gauge"));
 /// # Ok::<(), Box<dyn std::error::Error>>(())
 /// ```
 #[derive(Clone, Copy, Debug, PartialEq, Eq, Hash)]
@@ -23,8 +23,8 @@ pub struct Link<'a> {
     pub child: u64,
     /// The parent's inode number.
     pub parent: u64,
-    /// The name, which is well-formed UTF-8.
-    pub name: &'a [u8],
+    /// The name.
+    pub name: &'a str,
 }
 
 /// A link table.
@@ -37,7 +37,7 @@ pub struct Link<'a> {
 /// let block = Volume::blocks(&bytes).next().unwrap()?;
 /// let Content::LinkTable(table) = block.content else { panic!("no table") };
 /// for link in table {
-///     println!("{} is {:?} in {}", link.child, link.name, link.parent);
+///     println!("{} is {} in {}", link.child, link.name, link.parent);
 /// }
 /// # Ok::<(), Box<dyn std::error::Error>>(())
 /// ```
@@ -114,8 +114,8 @@ impl<'a> LinkTable<'a> {
     /// let bytes = std::fs::read("all_kinds.vol")?;
     /// let block = Volume::blocks(&bytes).next().unwrap()?;
     /// let Content::LinkTable(table) = block.content else { panic!("no table") };
-    /// let names: Vec<&[u8]> = table.iter().map(|link| link.name).collect();
-    /// assert_eq!(names, [&b"gauge"[..], b"log"]);
+    /// let names: Vec<&str> = table.iter().map(|link| link.name).collect();
+    /// assert_eq!(names, ["gauge", "log"]);
     /// # Ok::<(), Box<dyn std::error::Error>>(())
     /// ```
     #[must_use]
@@ -156,7 +156,7 @@ impl<'a> IntoIterator for &LinkTable<'a> {
 /// let block = Volume::blocks(&bytes).next().unwrap()?;
 /// let Content::LinkTable(table) = block.content else { panic!("no table") };
 /// let mut links: Links = table.iter();
-/// assert_eq!(links.next().unwrap().name, b"gauge");
+/// assert_eq!(links.next().unwrap().name, "gauge");
 /// assert_eq!(links.len(), 1);
 /// # Ok::<(), Box<dyn std::error::Error>>(())
 /// ```
@@ -180,7 +180,7 @@ impl<'a> Iterator for Links<'a> {
         Some(Link {
             child: entry.child,
             parent: entry.parent,
-            name: part(links, entry.name, entry.name_len),
+            name: text(part(links, entry.name, entry.name_len)),
         })
     }
 

@@ -5,15 +5,18 @@ use std::fmt;
 
 /// A refusal: its number, and where the header or block at fault begins.
 ///
-/// The numbers mean the same in every call; `docs/REFUSALS.md` says what to do about each.
+/// The numbers mean the same in every call. They are the constants below, with what
+/// `docs/REFUSALS.md` says of each; it also says what to do about it. More may come.
 ///
 /// ```
 /// use hdrfs::{Refusal, Volume};
 ///
-/// let refusal = Volume::check(b"").unwrap_err();
-/// assert_eq!(refusal, Refusal { number: 2, offset: 0 });
+/// let refusal = Volume::check(b"").unwrap_err().refusal;
+/// assert_eq!(refusal, Refusal::new(Refusal::ENDS_EARLY, 0));
 /// assert_eq!(refusal.to_string(), "refused 2 at 0: bytes end too early");
 /// ```
+#[must_use]
+#[non_exhaustive]
 #[derive(Clone, Copy, Debug, PartialEq, Eq, Hash)]
 pub struct Refusal {
     /// Which refusal it is.
@@ -23,52 +26,108 @@ pub struct Refusal {
     pub offset: u64,
 }
 
+/// The numbers, each with its meaning and with a few words for a line of text.
+macro_rules! numbers {
+    ($($(#[$meaning:meta])* $name:ident = $number:literal, $words:literal;)*) => {
+        impl Refusal {
+            $($(#[$meaning])* pub const $name: u64 = $number;)*
+
+            /// What the number means, in a few plain words.
+            ///
+            /// ```
+            /// use hdrfs::Refusal;
+            ///
+            /// assert_eq!(Refusal::new(Refusal::CHECKSUM_WRONG, 80).words(), "checksum wrong");
+            /// ```
+            #[must_use]
+            pub const fn words(&self) -> &'static str {
+                match self.number {
+                    $(Refusal::$name => $words,)*
+                    _ => "unknown refusal number",
+                }
+            }
+        }
+    };
+}
+
+numbers! {
+    /// the volume has more than 16,777,216 bytes, or would have (to be listed: more than 65,536)
+    VOLUME_TOO_LONG = 1, "volume too long";
+
+    /// the bytes end too early: in the header, in a block, before a link table that has to be
+    /// there; or the offset lies beyond the end
+    ENDS_EARLY = 2, "bytes end too early";
+
+    /// the first 17 bytes are not those of an HDRFS volume
+    WRONG_MAGIC = 3, "not an HDRFS volume";
+
+    /// the version, the checksum algorithm or the hash algorithm is not 0
+    UNKNOWN_VERSION = 4, "unknown version or algorithm";
+
+    /// a checksum is wrong: the header's at offset 0, else that of the block at the offset given
+    CHECKSUM_WRONG = 5, "checksum wrong";
+
+    /// volume 0 has the hash of a previous volume
+    HASH_IN_VOLUME_0 = 6, "volume 0 has the hash of a previous volume";
+
+    /// a block begins with an ID that is not 1 to 8
+    UNKNOWN_BLOCK = 7, "unknown block ID";
+
+    /// a block in the wrong place: another block where the link table is due, a link table where
+    /// none is due, or a bookmark below 80
+    WRONG_PLACE = 8, "block in the wrong place";
+
+    /// over a limit: a regular file with more than 1,024 extents (58,368 bytes of them), more than
+    /// 4,096 links or volume lengths, length bytes that are no multiple of 8; in writing, a name,
+    /// value or path that its length field cannot hold
+    OVER_LIMIT = 9, "over a limit";
+
+    /// a name, a path or a link target is not UTF-8
+    NOT_TEXT = 10, "text is not UTF-8";
+
+    /// an inode's fields contradict each other or an extent's numbers do not fit; in writing, an ID
+    /// or hash of the wrong length, or link bytes that are not the stated links
+    CONTRADICTION = 11, "inode fields or extents contradict each other";
+
+    /// two extents of a file keep the same position
+    OVERLAP = 12, "two extents keep the same position";
+
+    /// two links of a table have the same parent and the same name
+    LINK_TWICE = 13, "same link twice in a table";
+
+    /// a time is not greater than the last one before it
+    NOT_LATER = 14, "time not later than the one before";
+
+    /// the block at the offset isn't the inode of a regular file
+    NOT_REGULAR = 15, "not the inode of a regular file";
+
+    /// the volume or the range that is asked for is not there; of a lookup: an extent of the file
+    /// names a volume without a length, or reaches beyond that length
+    NOT_THERE = 16, "volume or range is not there";
+
+    /// the result is longer than the lent room
+    NO_ROOM = 17, "no room for the result";
+
+    /// a kept byte in a block of size 0
+    STRAY = 18, "byte kept of a block of size 0";
+}
+
 impl Refusal {
-    /// A limit is exceeded.
-    pub(crate) const OVER_LIMIT: u64 = 9;
-
-    /// The volume or range is not there.
-    pub(crate) const NOT_THERE: u64 = 16;
-
-    /// There is no room for the result.
-    pub(crate) const ROOM_TOO_SMALL: u64 = 17;
-
-    /// What the number means, in a few plain words.
+    /// The refusal with a number, about the header or block at an offset.
     ///
     /// ```
-    /// let refusal = hdrfs::Refusal { number: 5, offset: 80 };
-    /// assert_eq!(refusal.words(), "checksum wrong");
+    /// let refusal = hdrfs::Refusal::new(5, 80);
+    /// assert_eq!((refusal.number, refusal.offset), (5, 80));
     /// ```
-    #[must_use]
-    pub fn words(&self) -> &'static str {
-        match self.number {
-            1 => "volume too long",
-            2 => "bytes end too early",
-            3 => "not an HDRFS volume",
-            4 => "unknown version or algorithm",
-            5 => "checksum wrong",
-            6 => "volume 0 has the hash of a previous volume",
-            7 => "unknown block ID",
-            8 => "block in the wrong place",
-            9 => "over a limit",
-            10 => "text is not UTF-8",
-            11 => "inode fields or extents contradict each other",
-            12 => "two extents keep the same position",
-            13 => "same link twice in a table",
-            14 => "time not later than the one before",
-            15 => "not the inode of a regular file",
-            16 => "volume or range is not there",
-            17 => "no room for the result",
-            18 => "byte kept of a block of size 0",
-            _ => "unknown refusal number",
-        }
+    pub const fn new(number: u64, offset: u64) -> Refusal {
+        Refusal { number, offset }
     }
 
     /// Nothing where the number is 0, the mark of an accepted call; else an error.
     pub(crate) fn unless_accepted(number: u64, offset: u64) -> Result<(), Refusal> {
         match number {
             0 => Ok(()),
-            _ => Err(Refusal { number, offset }),
+            _ => Err(Refusal::new(number, offset)),
         }
     }
 }
@@ -81,3 +140,56 @@ impl fmt::Display for Refusal {
 }
 
 impl Error for Refusal {}
+
+/// A volume that was not accepted: why, and how many of its blocks were sound.
+///
+/// Where only the refusal matters, `?` makes one of it.
+///
+/// ```
+/// use hdrfs::{Refusal, Volume};
+/// # std::env::set_current_dir("../../crates/samples/data")?;
+///
+/// fn sequence(volume: &[u8]) -> Result<u64, Refusal> {
+///     Ok(Volume::check(volume)?.sequence())
+/// }
+/// let bytes = std::fs::read("same_time.vol")?;
+/// let rejected = Volume::check(&bytes).unwrap_err();
+/// assert_eq!(rejected.blocks, 1);
+/// assert_eq!(sequence(&bytes), Err(rejected.refusal));
+/// # Ok::<(), std::io::Error>(())
+/// ```
+#[must_use]
+#[non_exhaustive]
+#[derive(Clone, Copy, Debug, PartialEq, Eq, Hash)]
+pub struct Rejected {
+    /// Why, and where the header or block at fault begins.
+    pub refusal: Refusal,
+    /// How many blocks after the header were accepted before it, the link table included.
+    pub blocks: u64,
+}
+
+impl Rejected {
+    /// A refusal after so many accepted blocks.
+    pub(crate) const fn new(refusal: Refusal, blocks: u64) -> Rejected {
+        Rejected { refusal, blocks }
+    }
+}
+
+impl From<Rejected> for Refusal {
+    fn from(rejected: Rejected) -> Refusal {
+        rejected.refusal
+    }
+}
+
+impl fmt::Display for Rejected {
+    fn fmt(&self, f: &mut fmt::Formatter<'_>) -> fmt::Result {
+        let Rejected { refusal, blocks } = self;
+        write!(f, "{refusal} (blocks accepted before it: {blocks})")
+    }
+}
+
+impl Error for Rejected {
+    fn source(&self) -> Option<&(dyn Error + 'static)> {
+        Some(&self.refusal)
+    }
+}

@@ -2,14 +2,14 @@
 
 use std::fmt;
 
-use crate::{sys, Blocks, Bookmark, File, Lengths, Refusal};
+use crate::{sys, Blocks, Bookmark, File, Lengths, Refusal, Rejected};
 
 /// The most bytes that a volume may have. Whoever reads a file needs to read only one more to have
 /// it refused.
 ///
 /// ```
-/// let refusal = hdrfs::Volume::check(&vec![0; hdrfs::MAX_VOLUME_LEN + 1]).unwrap_err();
-/// assert_eq!(refusal.number, 1);
+/// let rejected = hdrfs::Volume::check(&vec![0; hdrfs::MAX_VOLUME_LEN + 1]).unwrap_err();
+/// assert_eq!(rejected.refusal.number, 1);
 /// ```
 pub const MAX_VOLUME_LEN: usize = 16_777_216;
 
@@ -28,13 +28,15 @@ impl Volume {
     /// # std::env::set_current_dir("../../crates/samples/data")?;
     ///
     /// let bytes = std::fs::read("wrong_block_sum.vol")?;
-    /// let refusal = Volume::check(&bytes).unwrap_err();
-    /// assert_eq!(refusal.to_string(), "refused 5 at 80: checksum wrong");
+    /// let rejected = Volume::check(&bytes).unwrap_err();
+    /// assert_eq!(rejected.refusal.to_string(), "refused 5 at 80: checksum wrong");
+    /// assert_eq!(rejected.blocks, 0);
     /// # Ok::<(), std::io::Error>(())
     /// ```
-    pub fn check(volume: &[u8]) -> Result<Checked<'_>, Refusal> {
+    pub fn check(volume: &[u8]) -> Result<Checked<'_>, Rejected> {
         let answer = sys::check(volume);
-        Refusal::unless_accepted(answer.refusal, answer.offset)?;
+        Refusal::unless_accepted(answer.refusal, answer.offset)
+            .map_err(|refusal| Rejected::new(refusal, answer.blocks))?;
         Ok(Checked {
             volume,
             sequence: answer.sequence,
@@ -51,14 +53,18 @@ impl Volume {
     ///
     /// let heading = Volume::header(&std::fs::read("all_kinds.vol")?)?;
     /// assert_eq!(heading.sequence, 1);
+    /// assert_eq!(heading.id[..3], [0, 1, 2]);
     /// assert!(heading.next.table_due);
     /// # Ok::<(), Box<dyn std::error::Error>>(())
     /// ```
     pub fn header(volume: &[u8]) -> Result<Heading, Refusal> {
         let answer = sys::header(volume);
         Refusal::unless_accepted(answer.refusal, 0)?;
+        let (id, previous) = header_parts(volume);
         Ok(Heading {
+            id,
             sequence: answer.sequence,
+            previous,
             next: Bookmark::from_numbers(answer.next, answer.due, 0, 0),
         })
     }
@@ -90,12 +96,28 @@ impl Volume {
 /// assert_eq!((heading.sequence, heading.next.offset), (0, 80));
 /// # Ok::<(), Box<dyn std::error::Error>>(())
 /// ```
+#[must_use]
+#[non_exhaustive]
 #[derive(Clone, Copy, Debug, PartialEq, Eq)]
 pub struct Heading {
+    /// The ID of the file system, which all its volumes have.
+    pub id: [u8; 16],
     /// The sequence number.
     pub sequence: u64,
+    /// The hash of the previous volume; zeros in volume 0.
+    pub previous: [u8; 32],
     /// The bookmark after the header.
     pub next: Bookmark,
+}
+
+/// The file system ID and the previous hash of an accepted header, at the places that its layout
+/// gives them.
+fn header_parts(volume: &[u8]) -> ([u8; 16], [u8; 32]) {
+    let mut id = [0; 16];
+    let mut previous = [0; 32];
+    id.copy_from_slice(&volume[18..34]);
+    previous.copy_from_slice(&volume[44..76]);
+    (id, previous)
 }
 
 /// A volume that was checked and accepted.
@@ -107,6 +129,7 @@ pub struct Heading {
 /// assert_eq!((checked.sequence(), checked.block_count()), (0, 1));
 /// # Ok::<(), Box<dyn std::error::Error>>(())
 /// ```
+#[must_use]
 #[derive(Clone, Copy)]
 pub struct Checked<'a> {
     volume: &'a [u8],

@@ -75,7 +75,7 @@ impl<S: Source> Walk<S> {
                     self.take_in(count, to);
                     return Ok(());
                 }
-                Err(refusal) if refusal.number == Refusal::ROOM_TOO_SMALL => {
+                Err(refusal) if refusal.number == Refusal::NO_ROOM => {
                     self.make_room(to, to - from <= room, refusal)?;
                 }
                 Err(refusal) => return Err(refusal),

@@ -155,13 +155,12 @@ impl<'a> Writer<'a> {
         ///
         /// let mut buf = [0; 200];
         /// let mut writer = Writer::create(&mut buf, &[1; 16], 0, &[0; 32])?;
-        /// writer.append_link(4, Link { child: 8, parent: 1, name: b"gauge" })?;
-        /// let no_text = Link { child: 8, parent: 1, name: b"\xff" };
-        /// assert_eq!(writer.append_link(5, no_text).unwrap_err().number, 10);
+        /// writer.append_link(4, Link { child: 8, parent: 1, name: "gauge" })?;
+        /// assert_eq!(writer.bookmark().offset, 80 + 31 + 5);
         /// # Ok::<(), hdrfs::Refusal>(())
         /// ```
         append_link(time: u64, link: Link<'_>) calls append_link(
-            time, link.child, link.parent, link.name
+            time, link.child, link.parent, link.name.as_bytes()
         );
 
         /// Appends an unlink block.
@@ -171,12 +170,12 @@ impl<'a> Writer<'a> {
         ///
         /// let mut buf = [0; 200];
         /// let mut writer = Writer::create(&mut buf, &[1; 16], 0, &[0; 32])?;
-        /// writer.append_unlink(5, Link { child: 8, parent: 1, name: b"log" })?;
+        /// writer.append_unlink(5, Link { child: 8, parent: 1, name: "log" })?;
         /// assert_eq!(writer.bookmark().last_time, Some(5));
         /// # Ok::<(), hdrfs::Refusal>(())
         /// ```
         append_unlink(time: u64, link: Link<'_>) calls append_unlink(
-            time, link.child, link.parent, link.name
+            time, link.child, link.parent, link.name.as_bytes()
         );
 
         /// Appends an xattr block. The value may be any bytes.
@@ -184,12 +183,12 @@ impl<'a> Writer<'a> {
         /// ```
         /// let mut buf = [0; 200];
         /// let mut writer = hdrfs::Writer::create(&mut buf, &[1; 16], 0, &[0; 32])?;
-        /// writer.append_xattr(6, 7, b"unit", b"m\xff")?;
+        /// writer.append_xattr(6, 7, "unit", b"m\xff")?;
         /// assert_eq!(writer.bookmark().offset, 110);
         /// # Ok::<(), hdrfs::Refusal>(())
         /// ```
-        append_xattr(time: u64, inode: u64, name: &[u8], value: &[u8]) calls append_xattr(
-            time, inode, name, value
+        append_xattr(time: u64, inode: u64, name: &str, value: &[u8]) calls append_xattr(
+            time, inode, name.as_bytes(), value
         );
 
         /// Appends a removed xattr block.
@@ -197,12 +196,12 @@ impl<'a> Writer<'a> {
         /// ```
         /// let mut buf = [0; 200];
         /// let mut writer = hdrfs::Writer::create(&mut buf, &[1; 16], 0, &[0; 32])?;
-        /// writer.append_removed_xattr(7, 7, b"unit")?;
-        /// assert_eq!(writer.append_removed_xattr(8, 7, &[65; 256]).unwrap_err().number, 9);
+        /// writer.append_removed_xattr(7, 7, "unit")?;
+        /// assert_eq!(writer.append_removed_xattr(8, 7, &"A".repeat(256)).unwrap_err().number, 9);
         /// # Ok::<(), hdrfs::Refusal>(())
         /// ```
-        append_removed_xattr(time: u64, inode: u64, name: &[u8]) calls append_removed_xattr(
-            time, inode, name
+        append_removed_xattr(time: u64, inode: u64, name: &str) calls append_removed_xattr(
+            time, inode, name.as_bytes()
         );
 
         /// Appends a data block. Its payload begins 17 bytes behind the bookmark, which is what
@@ -223,11 +222,13 @@ impl<'a> Writer<'a> {
         /// ```
         /// let mut buf = [0; 200];
         /// let mut writer = hdrfs::Writer::create(&mut buf, &[1; 16], 0, &[0; 32])?;
-        /// writer.append_rename(9, b"gauge", "p\u{e9}gel".as_bytes())?;
+        /// writer.append_rename(9, "gauge", "pégel")?;
         /// assert_eq!(writer.bookmark().offset, 108);
         /// # Ok::<(), hdrfs::Refusal>(())
         /// ```
-        append_rename(time: u64, old: &[u8], new: &[u8]) calls append_rename(time, old, new);
+        append_rename(time: u64, old: &str, new: &str) calls append_rename(
+            time, old.as_bytes(), new.as_bytes()
+        );
 
         /// Appends a link table, of so many links; `links` has their bytes, as
         /// [`LinkTable::bytes`](crate::LinkTable::bytes) hands them out. A link is 8 bytes of

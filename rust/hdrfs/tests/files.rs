@@ -27,7 +27,7 @@ fn rows(runs: impl Iterator<Item = Result<Run, Refusal>>) -> Result<Vec<[u64; 5]
 }
 
 fn refused(number: u64, offset: u64) -> Refusal {
-    Refusal { number, offset }
+    Refusal::new(number, offset)
 }
 
 #[test]

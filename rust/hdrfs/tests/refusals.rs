@@ -1,22 +1,51 @@
-//! Every refusal number that the documents explain has words of its own here.
+//! Every refusal number that the documents explain is a constant here, with the same meaning, and
+//! has words of its own.
 
-use std::collections::BTreeSet;
+use std::collections::{BTreeMap, BTreeSet};
 
-use hdrfs::Refusal;
+use hdrfs::{Refusal, Volume};
 
 const EXPLAINED: &str = include_str!("../../../docs/REFUSALS.md");
+const SOURCE: &str = include_str!("../src/refusal.rs");
 
 fn words(number: u64) -> &'static str {
-    Refusal { number, offset: 0 }.words()
+    Refusal::new(number, 0).words()
+}
+
+/// The second cells of the rows that begin with a number.
+fn explained() -> BTreeMap<u64, String> {
+    let row = |line: &str| {
+        let mut cells = line.strip_prefix("| ")?.split(" | ");
+        Some((cells.next()?.parse().ok()?, cells.next()?.to_string()))
+    };
+    EXPLAINED.lines().filter_map(row).collect()
+}
+
+/// The comments over the constants.
+fn commented() -> BTreeMap<u64, String> {
+    let (_, table) = SOURCE.split_once("numbers! {").unwrap();
+    let (table, _) = table.split_once("\n}").unwrap();
+    let constant = |piece: &str| {
+        let comment = piece
+            .lines()
+            .filter_map(|line| line.trim().strip_prefix("///"));
+        let comment: Vec<&str> = comment.map(str::trim).collect();
+        let number = piece.split_once(" = ")?.1.split(',').next()?;
+        Some((number.parse().ok()?, comment.join(" ")))
+    };
+    table.split("\n\n").filter_map(constant).collect()
+}
+
+#[test]
+fn the_constants_say_what_the_documents_say() {
+    assert!(explained().len() >= 18);
+    assert_eq!(commented(), explained());
 }
 
 #[test]
 fn every_number_has_words() {
-    let first_cell = |row: &str| row.strip_prefix("| ")?.split(' ').next()?.parse().ok();
-    let numbers: BTreeSet<u64> = EXPLAINED.lines().filter_map(first_cell).collect();
-    assert!(numbers.len() > 10);
-    for number in &numbers {
-        assert_ne!(words(*number), words(u64::MAX), "{number}");
+    for number in explained().into_keys() {
+        assert_ne!(words(number), words(u64::MAX), "{number}");
     }
 }
 
@@ -30,18 +59,22 @@ fn no_words_stand_for_two_numbers() {
 
 #[test]
 fn a_refusal_is_an_error_with_a_line() {
-    let refusal = Refusal {
-        number: 5,
-        offset: 80,
-    };
-    let error: Box<dyn std::error::Error + Send + Sync> = Box::new(refusal);
+    let error: Box<dyn std::error::Error + Send + Sync> = Box::new(Refusal::new(5, 80));
     assert_eq!(error.to_string(), "refused 5 at 80: checksum wrong");
-    let unknown = Refusal {
-        number: 99,
-        offset: 0,
-    };
     assert_eq!(
-        unknown.to_string(),
+        Refusal::new(99, 0).to_string(),
         "refused 99 at 0: unknown refusal number"
     );
+}
+
+#[test]
+fn a_rejected_volume_says_how_many_blocks_were_sound() {
+    let rejected = Volume::check(b"").unwrap_err();
+    assert_eq!(rejected.blocks, 0);
+    assert_eq!(
+        rejected.to_string(),
+        "refused 2 at 0: bytes end too early (blocks accepted before it: 0)"
+    );
+    let source = std::error::Error::source(&rejected).unwrap();
+    assert_eq!(source.to_string(), "refused 2 at 0: bytes end too early");
 }

@@ -105,7 +105,7 @@ fn too_little_room_is_refused() {
 #[test]
 fn a_header_is_refused() {
     let mut buf = [0xA5; 80];
-    let refusal = |number| Some(Refusal { number, offset: 0 });
+    let refusal = |number| Some(Refusal::new(number, 0));
     let hash = [1; 32];
     assert_eq!(Writer::create(&mut buf, &ID, 0, &hash).err(), refusal(6));
     assert_eq!(
@@ -123,9 +123,9 @@ fn blocks_are_refused_out_of_place() {
     let link = Link {
         child: 8,
         parent: 1,
-        name: b"gauge",
+        name: "gauge",
     };
-    let out_of_place = |offset| Some(Refusal { number: 8, offset });
+    let out_of_place = |offset| Some(Refusal::new(8, offset));
     assert_eq!(writer.append_link(1, link).err(), out_of_place(80));
     writer.append_table(0, b"").unwrap();
     assert_eq!(writer.append_table(0, b"").err(), out_of_place(93));
@@ -152,17 +152,11 @@ fn writing_goes_on_at_the_end_of_a_volume() {
     let end = Volume::check(&buf).unwrap().end();
     buf.resize(130, 0);
     let mut writer = Writer::at(&mut buf, end);
-    writer.append_rename(8, b"a", b"b").unwrap();
+    writer.append_rename(8, "a", "b").unwrap();
     let volume = writer.written();
     assert_eq!(volume.len(), 123);
     let last = Volume::blocks(volume).last().unwrap().unwrap();
-    assert_eq!(
-        last.content,
-        Content::Rename {
-            old: b"a",
-            new: b"b"
-        }
-    );
+    assert_eq!(last.content, Content::Rename { old: "a", new: "b" });
 }
 
 /// A bookmark that is made up writes nowhere but at its offset, and ends nothing badly.

@@ -61,10 +61,7 @@ impl Source for &mut Model {
         self.questions += 1;
         let runs = self.cut(from, to);
         if out.len() < 5 * runs.len() {
-            return Err(Refusal {
-                number: 17,
-                offset: 80,
-            });
+            return Err(Refusal::new(17, 80));
         }
         for (run, numbers) in runs.iter().zip(out.chunks_mut(5)) {
             let (kind, place) = match run.stored {
@@ -197,10 +194,7 @@ struct Refusing(u64);
 
 impl Source for Refusing {
     fn ask(&mut self, _: u64, _: u64, _: &mut [u64]) -> Result<usize, Refusal> {
-        Err(Refusal {
-            number: self.0,
-            offset: 80,
-        })
+        Err(Refusal::new(self.0, 80))
     }
 }
 
