@@ -3,10 +3,7 @@
 use std::fmt;
 use std::iter::FusedIterator;
 
-use crate::{sys, Bookmark, Link, LinkTable, Refusal, Volume};
-
-/// The file type of a regular file, that is its mode divided by 4,096.
-const REGULAR: u16 = 8;
+use crate::{sys, Bookmark, ExtentIter, FileType, Link, LinkTable, Refusal, Volume};
 
 /// The part of a volume at an offset that the library handed out.
 pub(crate) fn part(bytes: &[u8], at: u64, len: u64) -> &[u8] {
@@ -171,10 +168,82 @@ impl<'a> Inode<'a> {
     /// ```
     #[must_use]
     pub fn is_regular(&self) -> bool {
-        self.mode / 4096 == REGULAR
+        self.file_type() == FileType::Regular
     }
 
-    fn new(block: &sys::Block, rest: &'a [u8]) -> Inode<'a> {
+    /// What it is: a regular file, a folder, and so on.
+    ///
+    /// ```
+    /// use hdrfs::{FileType, Inode};
+    ///
+    /// assert_eq!(Inode::regular(7).file_type(), FileType::Regular);
+    /// ```
+    pub fn file_type(&self) -> FileType {
+        FileType::of(self.mode)
+    }
+
+    /// The extents of a regular file; other inodes have none.
+    ///
+    /// Only an inode out of an accepted block may be asked: one that a caller puts together for a
+    /// [`Writer`](crate::Writer) has any bytes.
+    ///
+    /// ```
+    /// use hdrfs::{Content, Logical, Volume};
+    /// # std::env::set_current_dir("../../crates/samples/data")?;
+    ///
+    /// let bytes = std::fs::read("all_kinds.vol")?;
+    /// let block = Volume::blocks(&bytes).nth(1).unwrap()?;
+    /// let Content::Inode(inode) = block.content else { panic!("no inode") };
+    /// let starts: Vec<Logical> = inode.extents().map(|extent| extent.logical).collect();
+    /// assert_eq!(starts, [Logical(0), Logical(4)]);
+    /// # Ok::<(), Box<dyn std::error::Error>>(())
+    /// ```
+    pub fn extents(&self) -> ExtentIter<'a> {
+        ExtentIter::new(if self.is_regular() { self.rest } else { &[] })
+    }
+
+    /// The target of a symbolic link; other inodes have none.
+    ///
+    /// ```
+    /// use hdrfs::{Content, Volume};
+    /// # std::env::set_current_dir("../../crates/samples/data")?;
+    ///
+    /// let bytes = std::fs::read("all_kinds.vol")?;
+    /// let block = Volume::blocks(&bytes).nth(2).unwrap()?;
+    /// let Content::Inode(inode) = block.content else { panic!("no inode") };
+    /// assert_eq!(inode.target(), Some("gauge"));
+    /// # Ok::<(), Box<dyn std::error::Error>>(())
+    /// ```
+    #[must_use]
+    pub fn target(&self) -> Option<&'a str> {
+        (self.file_type() == FileType::SymbolicLink).then(|| text(self.rest))
+    }
+
+    /// An empty regular file with mode 0644, to be changed field by field and written.
+    ///
+    /// ```
+    /// use hdrfs::Inode;
+    ///
+    /// let inode = Inode { size: 3, ..Inode::regular(7) };
+    /// assert!(inode.is_regular());
+    /// ```
+    #[must_use]
+    pub const fn regular(number: u64) -> Inode<'static> {
+        Inode {
+            number,
+            mode: 0o100_644,
+            uid: 0,
+            gid: 0,
+            atime: 0,
+            mtime: 0,
+            ctime: 0,
+            btime: 0,
+            size: 0,
+            rest: &[],
+        }
+    }
+
+    pub(crate) fn new(block: &sys::Block, rest: &'a [u8]) -> Inode<'a> {
         Inode {
             number: block.inode,
             // These three are two bytes wide in the volume.

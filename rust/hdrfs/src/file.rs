@@ -98,6 +98,8 @@ pub struct File<'a> {
     volume: &'a [u8],
     offset: u64,
     lengths: &'a Lengths,
+    /// Where refusals say that the block is.
+    told: u64,
 }
 
 impl<'a> File<'a> {
@@ -116,6 +118,15 @@ impl<'a> File<'a> {
             volume,
             offset,
             lengths,
+            told: offset,
+        }
+    }
+
+    /// The same file, where the block is a copy of one at another offset, which refusals have.
+    pub(crate) fn told_at(self, offset: u64) -> File<'a> {
+        File {
+            told: offset,
+            ..self
         }
     }
 
@@ -134,7 +145,7 @@ impl<'a> File<'a> {
     pub fn position(&self, position: Logical) -> Result<Place, Refusal> {
         let lengths = self.lengths.as_bytes();
         let place = sys::lookup(self.volume, self.offset, lengths, position.0);
-        Refusal::unless_accepted(place.refusal, self.offset)?;
+        Refusal::unless_accepted(place.refusal, self.told)?;
         Ok(match place.kind {
             sys::HOLE => Place::Hole,
             sys::STORED => Place::Stored(Stored {
@@ -185,7 +196,7 @@ impl<'a> File<'a> {
     pub(crate) fn ask(&self, from: u64, to: u64, out: &mut [u64]) -> Result<usize, Refusal> {
         let lengths = self.lengths.as_bytes();
         let answer = sys::runs(self.volume, self.offset, lengths, from, to, out);
-        Refusal::unless_accepted(answer.refusal, self.offset)?;
+        Refusal::unless_accepted(answer.refusal, self.told)?;
         Ok(answer.count as usize)
     }
 }

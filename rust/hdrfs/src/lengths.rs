@@ -61,6 +61,20 @@ impl Lengths {
         Ok(())
     }
 
+    /// The length of a volume, 0 where it is not set.
+    ///
+    /// ```
+    /// let lengths: hdrfs::Lengths = [104, 659].into_iter().collect();
+    /// assert_eq!((lengths.get(1), lengths.get(2)), (659, 0));
+    /// ```
+    #[must_use]
+    pub fn get(&self, sequence: u64) -> u64 {
+        let at = usize::try_from(sequence).ok();
+        let entry = at.and_then(|at| self.bytes.chunks_exact(ENTRY_LEN).nth(at));
+        let entry = entry.and_then(|entry| entry.try_into().ok());
+        entry.map_or(0, u64::from_le_bytes)
+    }
+
     /// The lengths as the library takes them, 8 bytes for each, lowest byte first.
     ///
     /// ```

@@ -39,10 +39,13 @@
 #![deny(missing_docs)]
 #![deny(unsafe_code)]
 
+mod archive;
 mod blocks;
 mod bookmark;
+mod extents;
 mod fetch;
 mod file;
+mod file_type;
 mod lengths;
 mod links;
 mod pace;
@@ -54,10 +57,16 @@ mod volume;
 mod walk;
 mod writer;
 
+pub use archive::{
+    Archive, ArchiveError, ArchiveFile, ArchiveReader, Checker, Chunk, Chunks, CurrentInode,
+    InodeBlock, Member, Missing, ShortExtent,
+};
 pub use blocks::{Block, Blocks, Content, Inode};
 pub use bookmark::Bookmark;
+pub use extents::{Extent, ExtentIter, Extents, Multiplicity};
 pub use fetch::fetch;
 pub use file::{File, Logical, Physical, Place, Stored};
+pub use file_type::FileType;
 pub use lengths::Lengths;
 pub use links::{Link, LinkTable, Links};
 pub use refusal::{Refusal, Rejected};

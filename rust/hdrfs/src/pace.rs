@@ -40,6 +40,11 @@ impl Pace {
         }
     }
 
+    /// Notes that the next range begins anywhere. What is known of the way there does not hold.
+    pub(crate) fn moved(&mut self) {
+        self.too_far = None;
+    }
+
     /// Notes that a range had no room.
     pub(crate) fn had_no_room(&mut self, to: u64) {
         self.too_far = Some(to);

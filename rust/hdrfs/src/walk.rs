@@ -12,7 +12,7 @@ use crate::runs::Run;
 use crate::{sys, Refusal};
 
 /// How many numbers a run takes.
-const RUN_LEN: usize = 5;
+pub(crate) const RUN_LEN: usize = 5;
 
 /// Who answers for the runs of a range.
 pub(crate) trait Source {

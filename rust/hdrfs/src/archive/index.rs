@@ -1,0 +1,165 @@
+//! Which inode blocks are current, and which links were taken away last.
+
+use std::collections::{BTreeMap, HashMap};
+
+use crate::{sys, FileType, Inode};
+
+/// The IDs of the blocks that matter here.
+const INODE: u64 = 1;
+const LINK: u64 = 2;
+const UNLINK: u64 = 3;
+
+/// The current state of an inode: what its last block says in the highest volume that has one.
+///
+/// ```
+/// # std::env::set_current_dir("tests/gauge")?;
+/// let archive = hdrfs::Archive::open(["0.vol", "1.vol", "2.vol"])?;
+/// let inode = archive.inode(7).unwrap();
+/// assert_eq!((inode.volume, inode.offset, inode.size), (2, 210, 246));
+/// # Ok::<(), Box<dyn std::error::Error>>(())
+/// ```
+#[must_use]
+#[non_exhaustive]
+#[derive(Clone, Copy, Debug, PartialEq, Eq)]
+pub struct CurrentInode {
+    /// The inode number.
+    pub number: u64,
+    /// The sequence number of the volume that has the block.
+    pub volume: u64,
+    /// Where the block begins in that volume.
+    pub offset: u64,
+    /// How many bytes the block has.
+    pub block_len: u64,
+    /// The block's time.
+    pub time: u64,
+    /// The mode: file type and permissions.
+    pub mode: u16,
+    /// The user.
+    pub uid: u16,
+    /// The group.
+    pub gid: u16,
+    /// When it was last read.
+    pub atime: u64,
+    /// When its content was last changed.
+    pub mtime: u64,
+    /// When it was last changed.
+    pub ctime: u64,
+    /// When it was made.
+    pub btime: u64,
+    /// The size; for a regular file, how many positions it has.
+    pub size: u64,
+    /// Whether a link to it was taken away last: of all link and unlink blocks that have it as
+    /// child, the last is an unlink.
+    pub unlinked: bool,
+}
+
+impl CurrentInode {
+    /// What it is: a regular file, a folder, and so on.
+    ///
+    /// ```
+    /// use hdrfs::{Archive, FileType};
+    /// # std::env::set_current_dir("tests/gauge")?;
+    ///
+    /// let archive = Archive::open(["0.vol"])?;
+    /// assert_eq!(archive.inode(7).unwrap().file_type(), FileType::Regular);
+    /// # Ok::<(), Box<dyn std::error::Error>>(())
+    /// ```
+    pub fn file_type(&self) -> FileType {
+        FileType::of(self.mode)
+    }
+}
+
+/// What a block says of an inode, and where it stands in its volume.
+#[derive(Clone, Copy, Debug)]
+struct State {
+    offset: u64,
+    block_len: u64,
+    time: u64,
+    inode: Inode<'static>,
+}
+
+/// The inodes and links that were found in one volume: the last of each number.
+#[derive(Debug, Default)]
+pub(super) struct Found {
+    inodes: HashMap<u64, State>,
+    /// By the child's number, whether the link was taken away.
+    links: HashMap<u64, bool>,
+}
+
+impl Found {
+    /// Takes in the next block of the volume.
+    pub(super) fn visit(&mut self, offset: u64, block: &sys::Block) {
+        match block.id {
+            INODE => {
+                let state = State {
+                    offset,
+                    block_len: block.next - offset,
+                    time: block.time,
+                    inode: Inode::new(block, &[]),
+                };
+                self.inodes.insert(block.inode, state);
+            }
+            LINK | UNLINK => {
+                self.links.insert(block.child, block.id == UNLINK);
+            }
+            _ => (),
+        }
+    }
+}
+
+/// The inodes of all volumes, by number, whatever order the volumes come in.
+#[derive(Debug, Default)]
+pub(super) struct Index {
+    /// With the sequence number of the volume.
+    inodes: BTreeMap<u64, (u64, State)>,
+    links: HashMap<u64, (u64, bool)>,
+}
+
+impl Index {
+    /// Takes in what the volume with this sequence number has. It must be the only one.
+    pub(super) fn add(&mut self, sequence: u64, found: Found) {
+        for (number, state) in found.inodes {
+            let entry = self.inodes.entry(number).or_insert((sequence, state));
+            if entry.0 < sequence {
+                *entry = (sequence, state);
+            }
+        }
+        for (child, unlinked) in found.links {
+            let entry = self.links.entry(child).or_insert((sequence, unlinked));
+            if entry.0 < sequence {
+                *entry = (sequence, unlinked);
+            }
+        }
+    }
+
+    pub(super) fn get(&self, number: u64) -> Option<CurrentInode> {
+        let (volume, state) = self.inodes.get(&number)?;
+        Some(self.current(*volume, state))
+    }
+
+    pub(super) fn iter(&self) -> impl ExactSizeIterator<Item = CurrentInode> + '_ {
+        let inodes = self.inodes.values();
+        inodes.map(|(volume, state)| self.current(*volume, state))
+    }
+
+    fn current(&self, volume: u64, state: &State) -> CurrentInode {
+        let inode = &state.inode;
+        let link = self.links.get(&inode.number);
+        CurrentInode {
+            number: inode.number,
+            volume,
+            offset: state.offset,
+            block_len: state.block_len,
+            time: state.time,
+            mode: inode.mode,
+            uid: inode.uid,
+            gid: inode.gid,
+            atime: inode.atime,
+            mtime: inode.mtime,
+            ctime: inode.ctime,
+            btime: inode.btime,
+            size: inode.size,
+            unlinked: link.is_some_and(|(_, unlinked)| *unlinked),
+        }
+    }
+}

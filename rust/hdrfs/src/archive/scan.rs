@@ -1,0 +1,45 @@
+//! One walk over a volume: its check, and on the way where its inodes and links are.
+
+use crate::{sys, Bookmark, Heading, Refusal, Rejected, Volume};
+
+/// What a sound volume says of itself.
+#[derive(Clone, Copy, Debug, PartialEq, Eq)]
+pub(crate) struct Scanned {
+    pub(crate) heading: Heading,
+    /// How many blocks come after the header.
+    pub(crate) blocks: u64,
+    pub(crate) end: Bookmark,
+}
+
+/// Walks a whole volume, and hands every block to `visit`, with the offset at which it begins. The
+/// volume is accepted exactly if [`Volume::check`] accepts it, and refused with the same numbers.
+///
+/// The bytes are looked at once: a check and then a walk would take all checksums twice.
+pub(crate) fn scan(
+    volume: &[u8],
+    mut visit: impl FnMut(u64, &sys::Block),
+) -> Result<Scanned, Rejected> {
+    let mut blocks = 0;
+    let rejected = |refusal, blocks| Rejected::new(refusal, blocks);
+    let heading = Volume::header(volume).map_err(|refusal| rejected(refusal, 0))?;
+    let mut mark = heading.next;
+    loop {
+        let (due, timed, last) = mark.numbers();
+        let block = sys::read(volume, mark.offset, due, timed, last);
+        Refusal::unless_accepted(block.refusal, mark.offset)
+            .map_err(|refusal| rejected(refusal, blocks))?;
+        if block.end != 0 {
+            return Ok(Scanned {
+                heading,
+                blocks,
+                end: mark,
+            });
+        }
+        visit(mark.offset, &block);
+        blocks += 1;
+        mark = Bookmark::from_numbers(block.next, block.due, block.timed, block.last);
+    }
+}
+
+#[cfg(test)]
+mod tests;
