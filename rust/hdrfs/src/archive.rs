@@ -8,6 +8,7 @@
 mod cache;
 mod chunks;
 mod content;
+mod each;
 mod error;
 mod file;
 mod index;
@@ -28,6 +29,7 @@ use member::Stock;
 use pages::{PageError, PAGE_LEN};
 
 pub use chunks::{Chunk, Chunks};
+pub use each::check_each;
 pub use error::{ArchiveError, Missing, ShortExtent};
 pub use file::{ArchiveFile, InodeBlock};
 pub use index::CurrentInode;

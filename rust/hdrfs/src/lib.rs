@@ -58,8 +58,8 @@ mod walk;
 mod writer;
 
 pub use archive::{
-    Archive, ArchiveError, ArchiveFile, ArchiveReader, Checker, Chunk, Chunks, CurrentInode,
-    InodeBlock, Member, Missing, ShortExtent,
+    check_each, Archive, ArchiveError, ArchiveFile, ArchiveReader, Checker, Chunk, Chunks,
+    CurrentInode, InodeBlock, Member, Missing, ShortExtent,
 };
 pub use blocks::{Block, Blocks, Content, Inode};
 pub use bookmark::Bookmark;
