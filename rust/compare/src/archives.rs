@@ -1,4 +1,8 @@
 //! Archives: what a set of volumes holds, by both sides.
 
+pub mod facts;
+pub mod files;
 pub mod folder;
+pub mod opening;
 pub mod reading;
+mod refused;

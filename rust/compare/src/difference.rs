@@ -13,6 +13,15 @@ pub struct Difference {
 /// The refusal number that both gave, 0 for none.
 pub type Answer = Result<u64, Difference>;
 
+impl Difference {
+    /// Says what the question is about.
+    #[must_use]
+    pub(crate) fn of(mut self, what: &str) -> Difference {
+        self.question = format!("{what}: {}", self.question);
+        self
+    }
+}
+
 impl fmt::Display for Difference {
     fn fmt(&self, f: &mut fmt::Formatter<'_>) -> fmt::Result {
         writeln!(f, "{}", self.question)?;

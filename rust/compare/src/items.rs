@@ -87,7 +87,8 @@ impl<'a> Asked<'a> {
     }
 }
 
-fn typed(numbers: &[u64]) -> Run {
+/// A run from its five numbers.
+pub(crate) fn typed(numbers: &[u64]) -> Run {
     Run {
         start: Logical(numbers[0]),
         len: numbers[1],

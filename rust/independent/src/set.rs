@@ -99,6 +99,8 @@ fn blocks(volume: &[u8]) -> Vec<Block<'_>> {
 pub struct LastLink<'a> {
     /// Whether it was taken away. A link in a table was made.
     pub taken_away: bool,
+    /// Whether it stands in a table.
+    pub in_table: bool,
     pub parent: u64,
     pub name: &'a [u8],
 }
@@ -210,9 +212,10 @@ fn inodes<'a>(volumes: &BTreeMap<u64, &'a [u8]>) -> BTreeMap<u64, Inode<'a>> {
 /// before the other blocks of the volume: they are what the volume starts with.
 fn last_links<'a>(volumes: &BTreeMap<u64, &'a [u8]>) -> BTreeMap<u64, LastLink<'a>> {
     let mut last = BTreeMap::new();
-    let mut note = |taken_away, child, parent, name| {
+    let mut note = |child, taken_away, in_table, parent, name| {
         let link = LastLink {
             taken_away,
+            in_table,
             parent,
             name,
         };
@@ -225,15 +228,15 @@ fn last_links<'a>(volumes: &BTreeMap<u64, &'a [u8]>) -> BTreeMap<u64, LastLink<'
                     child,
                     parent,
                     name,
-                } => note(false, child, parent, name.bytes),
+                } => note(child, false, false, parent, name.bytes),
                 Body::Unlink {
                     child,
                     parent,
                     name,
-                } => note(true, child, parent, name.bytes),
+                } => note(child, true, false, parent, name.bytes),
                 Body::Table { links, .. } => {
                     for link in Links::new(links.bytes) {
-                        note(false, link.child, link.parent, link.name);
+                        note(link.child, false, true, link.parent, link.name);
                     }
                 }
                 _ => {}

@@ -329,6 +329,7 @@ fn the_last_link_has_a_name() {
     let one = volume(1, &[table(2, &links), regular(1, 0, &[])]);
     let by_table = LastLink {
         taken_away: false,
+        in_table: true,
         parent: 9,
         name: b"a",
     };
@@ -336,6 +337,7 @@ fn the_last_link_has_a_name() {
     let two = volume(2, &[table(0, b""), link(3, 0, "ä".as_bytes())]);
     let by_block = LastLink {
         taken_away: true,
+        in_table: false,
         parent: 1,
         name: b"\xc3\xa4",
     };

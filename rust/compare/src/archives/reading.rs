@@ -13,8 +13,10 @@ use crate::difference::{same, Difference};
 /// Files up to this size are read as a whole.
 pub const WHOLE: u64 = 1 << 16;
 
-/// Seeks for each file.
+/// Seeks for each file, and for each that is not read as a whole. There may be a run for every byte of
+/// those, and then each seek takes long.
 const SEEKS: u64 = 24;
+const FEW_SEEKS: u64 = 8;
 
 /// The most bytes that are asked for at once after a seek.
 const PART: u64 = 300;
@@ -59,7 +61,12 @@ pub fn parts<R: Read + Seek>(
 ) -> Result<u64, Difference> {
     let mut compared = 0;
     let mut at = position(reader)?;
-    for _ in 0..SEEKS {
+    let seeks = if file.size() <= WHOLE {
+        SEEKS
+    } else {
+        FEW_SEEKS
+    };
+    for _ in 0..seeks {
         let target = target(rng, file.size(), points);
         at = seek(rng, reader, at, target, file.size())?;
         for _ in 0..rng.below(3) {

@@ -158,8 +158,8 @@ impl Log {
     /// A regular file, whose size is chosen with its extents.
     fn file(&self, rng: &mut Rng, time: u64) -> Piece {
         let extents = match rng.below(4_000) {
-            0..=3 => 1_024,
-            4..=40 => rng.between(20, 120),
+            0..=5 => 1_024,
+            6..=40 => rng.between(20, 120),
             41..=300 => 0,
             _ => rng.between(1, 9),
         };

@@ -80,10 +80,10 @@ fn one(rng: &mut Rng, lengths: &[(u64, u64)], at: u64) -> Extent {
 fn product(rng: &mut Rng, multiplicity: u8, length: u64) -> (u64, u64) {
     let most = rng.pick(&[3, 20, 20, 90, length]).min(length);
     let size = rng.between(0, most);
-    let count = match rng.below(60) {
+    let count = match rng.below(240) {
         0 if multiplicity == REPEATED => rng.between(0, TOP / size.max(1)),
-        1..=9 if multiplicity == REPEATED => rng.below(60),
-        10..=19 => 1,
+        1..=40 if multiplicity == REPEATED => rng.below(60),
+        41..=80 => 1,
         _ => rng.below(5),
     };
     if multiplicity == COUNTED && size > 0 {

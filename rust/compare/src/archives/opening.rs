@@ -1,0 +1,110 @@
+//! Volumes opened as a set, or the reason why they are none.
+
+use std::path::{Path, PathBuf};
+
+use generator::archive::Archive;
+use hdrfs::{ArchiveError, Checker};
+use independent::{set_faults, Set, SetFault};
+
+use crate::difference::{same, Difference};
+
+/// A set by both sides.
+pub struct Both<'a> {
+    pub proved: hdrfs::Archive,
+    pub independent: Set<'a>,
+}
+
+/// A set with its volumes handed over as bytes, with so many bytes of cache.
+///
+/// # Errors
+///
+/// Why they are no set.
+pub fn bytes(archive: &Archive, cache: usize) -> Result<hdrfs::Archive, ArchiveError> {
+    let mut set = hdrfs::Archive::with_cache(cache);
+    let mut checker = Checker::new();
+    for (place, volume) in archive.volumes.iter().enumerate() {
+        set.insert(checker.bytes(name(place), volume.clone())?)?;
+    }
+    Ok(set)
+}
+
+/// The name of the volume at a place, in a folder too.
+#[must_use]
+pub fn name(place: usize) -> PathBuf {
+    PathBuf::from(format!("{place:02}.vol"))
+}
+
+/// Compares whether the volumes are a set. Answers both, or nothing where both refuse.
+///
+/// # Errors
+///
+/// One refuses and the other does not, or the reason is none of those that there are.
+pub fn compare<'a>(
+    archive: &'a Archive,
+    opened: Result<hdrfs::Archive, ArchiveError>,
+) -> Result<Option<Both<'a>>, Difference> {
+    let lent: Vec<&[u8]> = archive.volumes.iter().map(Vec::as_slice).collect();
+    let faults = set_faults(&lent);
+    match (opened, Set::new(&lent)) {
+        (Ok(proved), Ok(independent)) => Ok(Some(Both {
+            proved,
+            independent,
+        })),
+        (Ok(_), Err(faults)) => {
+            same(None, Some(faults), || {
+                "whether the volumes are a set".into()
+            })?;
+            Ok(None)
+        }
+        (Err(error), _) => {
+            let told = fault(&error);
+            let listed = told.filter(|fault| faults.contains(fault));
+            let question = || format!("why the volumes are no set, of {faults:?}: {error}");
+            same(told.is_some(), listed.is_some(), question)?;
+            same(told.is_some(), true, question)?;
+            Ok(None)
+        }
+    }
+}
+
+/// The fault of a set that an error is. Two volumes may be named in any order.
+fn fault(error: &ArchiveError) -> Option<SetFault> {
+    let pair = |first: &Path, second: &Path| {
+        let (first, second) = (place(first)?, place(second)?);
+        Some((first.min(second), first.max(second)))
+    };
+    Some(match error {
+        ArchiveError::Refused {
+            path,
+            refusal,
+            blocks,
+        } => SetFault::Refused {
+            place: place(path)?,
+            number: refusal.number,
+            offset: refusal.offset,
+            blocks: (*blocks)?,
+        },
+        ArchiveError::TwoFileSystems { first, second } => {
+            let (first, second) = pair(first, second)?;
+            SetFault::Foreign { first, second }
+        }
+        ArchiveError::Twice {
+            sequence,
+            first,
+            second,
+        } => {
+            let (first, second) = pair(first, second)?;
+            SetFault::Double {
+                first,
+                second,
+                sequence: *sequence,
+            }
+        }
+        _ => return None,
+    })
+}
+
+/// Which volume has this path.
+fn place(path: &Path) -> Option<usize> {
+    path.file_stem()?.to_str()?.parse().ok()
+}
