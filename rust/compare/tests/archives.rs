@@ -2,6 +2,7 @@
 #![forbid(unsafe_code)]
 
 use std::collections::BTreeMap;
+use std::num::NonZeroUsize;
 
 use compare::archives::files::{self, Counts};
 use compare::archives::folder::Folder;
@@ -93,11 +94,18 @@ fn archives_from_bytes_agree() {
     });
 }
 
+/// Files in a folder, checked one after the other or in threads.
 #[test]
 fn archives_from_files_agree() {
-    each(FILES, |_, archive, tally| {
+    each(FILES, |rng, archive, tally| {
         let folder = Folder::new().expect("a folder");
         let paths = folder.store(archive).expect("all volumes written");
-        tally.compare(archive, hdrfs::Archive::open(paths))
+        let jobs = NonZeroUsize::new(1 + rng.index(3)).expect("a job at least");
+        opening::verdicts(archive, &paths, jobs)?;
+        let opened = match rng.below(2) {
+            0 => opening::in_threads(&paths, jobs),
+            _ => hdrfs::Archive::open(paths),
+        };
+        tally.compare(archive, opened)
     });
 }

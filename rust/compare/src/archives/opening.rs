@@ -1,12 +1,14 @@
 //! Volumes opened as a set, or the reason why they are none.
 
+use std::num::NonZeroUsize;
+use std::ops::ControlFlow;
 use std::path::{Path, PathBuf};
 
 use generator::archive::Archive;
-use hdrfs::{ArchiveError, Checker};
-use independent::{set_faults, Set, SetFault};
+use hdrfs::{check_each, ArchiveError, Checker};
+use independent::{check, set_faults, Set, SetFault, Verdict};
 
-use crate::difference::{same, Difference};
+use crate::difference::{same, same_list, Difference};
 
 /// A set by both sides.
 pub struct Both<'a> {
@@ -26,6 +28,68 @@ pub fn bytes(archive: &Archive, cache: usize) -> Result<hdrfs::Archive, ArchiveE
         set.insert(checker.bytes(name(place), volume.clone())?)?;
     }
     Ok(set)
+}
+
+/// A set of files that so many threads check.
+///
+/// # Errors
+///
+/// Why they are no set, by the first volume that is refused or does not fit to those before it.
+pub fn in_threads(paths: &[PathBuf], jobs: NonZeroUsize) -> Result<hdrfs::Archive, ArchiveError> {
+    let mut set = hdrfs::Archive::new();
+    let mut next = 0;
+    let stopped = check_each(paths, jobs, |index, checked| {
+        assert_eq!(index, next, "answers come in the order of the paths");
+        next += 1;
+        match checked.and_then(|member| set.insert(member)) {
+            Ok(()) => ControlFlow::Continue(()),
+            Err(error) => ControlFlow::Break(error),
+        }
+    });
+    match stopped {
+        ControlFlow::Continue(()) => Ok(set),
+        ControlFlow::Break(error) => Err(error),
+    }
+}
+
+/// Compares the verdict on every volume, also behind one that is refused.
+///
+/// # Errors
+///
+/// The first that differs.
+pub fn verdicts(
+    archive: &Archive,
+    paths: &[PathBuf],
+    jobs: NonZeroUsize,
+) -> Result<(), Difference> {
+    let mut given = Vec::new();
+    let _: ControlFlow<()> = check_each(paths, jobs, |_, checked| {
+        given.push(match checked {
+            Ok(member) => Ok((member.sequence(), member.block_count())),
+            Err(error) => Err(fault(&error)),
+        });
+        ControlFlow::Continue(())
+    });
+    let expected = archive
+        .volumes
+        .iter()
+        .enumerate()
+        .map(|(place, volume)| match check(volume) {
+            Verdict::Accepted {
+                sequence, blocks, ..
+            } => Ok((sequence, blocks)),
+            Verdict::Refused {
+                number,
+                offset,
+                blocks,
+            } => Err(Some(SetFault::Refused {
+                place,
+                number,
+                offset,
+                blocks,
+            })),
+        });
+    same_list(&given, &expected.collect::<Vec<_>>(), || "verdicts".into())
 }
 
 /// The name of the volume at a place, in a folder too.
