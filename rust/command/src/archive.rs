@@ -5,8 +5,9 @@ use std::path::{Path, PathBuf};
 
 use hdrfs::{Checked, Content, File, Lengths, Refusal, Volume};
 
-use crate::failure::{shown, Failure};
+use crate::failure::Failure;
 use crate::input;
+use crate::text::shown;
 
 /// A volume that was given and is sound. Its bytes are not kept: an archive may have more of them
 /// than fit into memory.
@@ -24,6 +25,7 @@ pub struct Inode {
     pub sequence: u64,
     pub offset: u64,
     pub size: u64,
+    pub mode: u16,
     pub volume: Vec<u8>,
 }
 
@@ -61,12 +63,13 @@ pub fn open(files: &[PathBuf], number: u64) -> Result<(Archive, Inode), Failure>
             continue;
         }
         let last = last_inode(&checked, number).map_err(|refusal| refused(path, refusal))?;
-        if let Some((offset, size)) = last {
+        if let Some((offset, size, mode)) = last {
             current = Some(Inode {
                 path: path.clone(),
                 sequence,
                 offset,
                 size,
+                mode,
                 volume,
             });
         }
@@ -80,14 +83,14 @@ pub fn open(files: &[PathBuf], number: u64) -> Result<(Archive, Inode), Failure>
     }
 }
 
-/// Where the last inode block with this number stands, and the size that it states.
-fn last_inode(checked: &Checked, number: u64) -> Result<Option<(u64, u64)>, Refusal> {
+/// Where the last inode block with this number stands, and the size and mode that it states.
+fn last_inode(checked: &Checked, number: u64) -> Result<Option<(u64, u64, u16)>, Refusal> {
     let mut last = None;
     for block in checked.blocks() {
         let block = block?;
         match block.content {
             Content::Inode(inode) if inode.number == number => {
-                last = Some((block.offset, inode.size))
+                last = Some((block.offset, inode.size, inode.mode))
             }
             _ => (),
         }

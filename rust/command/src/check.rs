@@ -1,7 +1,6 @@
 //! `hdrfs check`: whether volumes are sound.
 
 use std::collections::BTreeMap;
-use std::io::{self, IsTerminal, Write};
 use std::num::NonZeroUsize;
 use std::path::{Path, PathBuf};
 use std::sync::atomic::{AtomicUsize, Ordering};
@@ -10,10 +9,14 @@ use std::thread;
 
 use hdrfs::{Bookmark, Volume};
 
-use crate::failure::{shown, Failure, Status};
+use crate::commands::Request;
+use crate::failure::{Failure, Status};
 use crate::input;
 use crate::json::Object;
 use crate::output;
+use crate::progress::Progress;
+use crate::text::{count, shown};
+use crate::words::Words;
 
 /// What an accepted volume says of itself.
 struct Sound {
@@ -24,7 +27,26 @@ struct Sound {
 
 type Verdict = Result<Sound, Failure>;
 
-pub fn run(files: &[PathBuf], jobs: NonZeroUsize, json: bool) -> Result<Status, Failure> {
+#[derive(Debug)]
+pub struct Check {
+    pub files: Vec<PathBuf>,
+    pub jobs: NonZeroUsize,
+}
+
+impl Request for Check {
+    fn parse(words: &mut Words) -> Result<Check, String> {
+        Ok(Check {
+            jobs: words.jobs()?,
+            files: words.files()?,
+        })
+    }
+
+    fn run(&self, json: bool) -> Result<Status, Failure> {
+        check_all(&self.files, self.jobs, json)
+    }
+}
+
+fn check_all(files: &[PathBuf], jobs: NonZeroUsize, json: bool) -> Result<Status, Failure> {
     let next = AtomicUsize::new(0);
     let (sender, receiver) = mpsc::channel();
     thread::scope(|scope| {
@@ -87,7 +109,7 @@ impl<'a> Report<'a> {
         Report {
             files,
             json,
-            progress: Progress::new(files.len()),
+            progress: Progress::new("DONE of ALL volumes checked", files.len() as u64),
             accepted: 0,
             refused: 0,
             unread: 0,
@@ -97,17 +119,16 @@ impl<'a> Report<'a> {
     fn follow(mut self, receiver: Receiver<(usize, Verdict)>) -> Result<Status, Failure> {
         let mut early = BTreeMap::new();
         let mut due = 0;
-        for (done, (index, verdict)) in receiver.iter().enumerate() {
-            self.progress.clear();
+        for (index, verdict) in receiver {
+            self.progress.add(1);
             early.insert(index, verdict);
             while let Some(verdict) = early.remove(&due) {
-                self.put(&self.files[due], &verdict)?;
+                let path = &self.files[due];
+                self.progress.hidden(|| self.put(path, &verdict))?;
                 self.count(&verdict);
                 due += 1;
             }
-            self.progress.show(done + 1);
         }
-        self.progress.clear();
         self.finish()
     }
 
@@ -118,7 +139,7 @@ impl<'a> Report<'a> {
             Err(failure) if self.json => failure.json(),
             Err(failure @ Failure::Refused { .. }) => format!("{failure}\n"),
             Err(failure) => {
-                eprintln!("{failure}");
+                output::say(failure);
                 return Ok(());
             }
         };
@@ -136,17 +157,12 @@ impl<'a> Report<'a> {
     /// The summary for people; machines can count their lines. A file that could not be read
     /// outweighs a refused one, since nothing is known about it.
     fn finish(self) -> Result<Status, Failure> {
-        let Report {
-            accepted,
-            refused,
-            unread,
-            ..
-        } = self;
+        let (accepted, refused, unread) = (self.accepted, self.refused, self.unread);
+        drop(self.progress);
         if !self.json {
-            let all = self.files.len();
-            let summary =
-                format!("{all} files: {accepted} accepted, {refused} refused, {unread} not read\n");
-            output::print(&summary)?;
+            let all = count(self.files.len() as u64, "file");
+            let counts = format!("{accepted} accepted, {refused} refused, {unread} not read");
+            output::print(&format!("{all}: {counts}\n"))?;
         }
         Ok(match (refused, unread) {
             (0, 0) => Status::Accepted,
@@ -182,32 +198,6 @@ impl Sound {
         match self.end.last_time {
             Some(time) => object.number("time", time),
             None => object,
-        }
-    }
-}
-
-/// How far the work has come, on standard error, if a person sees it there.
-struct Progress {
-    all: usize,
-    is_seen: bool,
-}
-
-impl Progress {
-    fn new(all: usize) -> Progress {
-        let is_seen = all > 1 && io::stderr().is_terminal();
-        Progress { all, is_seen }
-    }
-
-    /// Failures to write are no reason to stop: this is not an answer.
-    fn show(&self, done: usize) {
-        if self.is_seen {
-            let _ = write!(io::stderr(), "\r{done} of {}", self.all);
-        }
-    }
-
-    fn clear(&self) {
-        if self.is_seen {
-            let _ = write!(io::stderr(), "\r\x1b[K");
         }
     }
 }

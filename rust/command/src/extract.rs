@@ -1,93 +1,119 @@
-//! `hdrfs extract`: the content of a file, written to a file.
+//! `hdrfs extract`: the content of a file, written to a file or to standard output.
 
-use std::fs::{self, File};
+use std::fs::File;
 use std::io::{self, BufWriter, Seek, SeekFrom, Write};
 use std::iter::Peekable;
-use std::path::{Path, PathBuf};
+use std::path::PathBuf;
 
 use hdrfs::{Logical, Runs};
 
 use crate::archive::{self, Inode};
-use crate::failure::{shown, Failure, Status};
+use crate::commands::Request;
+use crate::failure::{Failure, Status};
 use crate::json::Object;
 use crate::output;
+use crate::progress::Progress;
 use crate::store::Store;
+use crate::target::Target;
 use crate::temporary::Temporary;
+use crate::text::{count, shown};
+use crate::words::Words;
 
-pub fn run(files: &[PathBuf], number: u64, out: &Path, json: bool) -> Result<Status, Failure> {
-    let target = target(files, out)?;
-    let (archive, inode) = archive::open(files, number)?;
-    let mut runs = inode.file(&archive.lengths).all_runs().peekable();
-    // Whatever is refused about the file is refused here, before anything is written.
-    if let Some(Err(refusal)) = runs.peek() {
-        return Err(inode.refused(*refusal));
-    }
-    let unwritten = |error| Failure::Unwritten {
-        path: out.to_path_buf(),
-        error,
-    };
-    let (temporary, file) = Temporary::beside(&target).map_err(unwritten)?;
-    let mut content = Content::new(file, inode.size).map_err(unwritten)?;
-    let stored = copy(
-        runs,
-        &inode,
-        &mut Store::new(&archive, &inode),
-        |at, bytes| content.put(at, bytes).map_err(unwritten),
-    )?;
-    let file = content.finish().map_err(unwritten)?;
-    temporary.place(file, &target).map_err(unwritten)?;
-    output::print(&report(out, number, &inode, stored, json))
+/// The most bytes that a file of the system can have, whatever its disk.
+const MAX_FILE_LEN: u64 = i64::MAX as u64;
+
+#[derive(Debug)]
+pub struct Extract {
+    pub files: Vec<PathBuf>,
+    pub inode: u64,
+    pub out: PathBuf,
 }
 
-/// Where to write: where a link leads to, so that the link stays. Devices and folders cannot be
-/// replaced, and an input must not be.
-fn target(files: &[PathBuf], out: &Path) -> Result<PathBuf, Failure> {
-    if out.as_os_str().is_empty() {
-        return Err(Failure::Usage(
-            "the name of the file to write is empty".to_string(),
-        ));
+impl Request for Extract {
+    fn parse(words: &mut Words) -> Result<Extract, String> {
+        Ok(Extract {
+            inode: words.inode()?,
+            out: words.output()?,
+            files: words.files()?,
+        })
     }
-    let Ok(target) = fs::canonicalize(out) else {
-        return Ok(out.to_path_buf());
-    };
-    if !target.is_file() {
-        let why = format!("{} is there and is not a regular file", shown(out));
-        return Err(Failure::Usage(why));
-    }
-    let is_target = |path: &PathBuf| fs::canonicalize(path).is_ok_and(|path| path == target);
-    if files.iter().any(is_target) {
-        let why = format!("{} is one of the volumes to read", shown(out));
-        return Err(Failure::Usage(why));
-    }
-    Ok(target)
-}
 
-/// Hands on all stored runs, and answers how many bytes they have.
-fn copy(
-    runs: Peekable<Runs>,
-    inode: &Inode,
-    store: &mut Store,
-    mut put: impl FnMut(Logical, &[u8]) -> Result<(), Failure>,
-) -> Result<u64, Failure> {
-    let mut stored = 0;
-    for run in runs {
-        let run = run.map_err(|refusal| inode.refused(refusal))?;
-        if let Some(place) = run.stored {
-            put(run.start, store.bytes(place, run.len)?)?;
-            stored += run.len;
+    fn run(&self, json: bool) -> Result<Status, Failure> {
+        let target = Target::find(&self.out, &self.files)?;
+        let (archive, inode) = archive::open(&self.files, self.inode)?;
+        let mut runs = inode.file(&archive.lengths).all_runs().peekable();
+        // Whatever is refused about the file is refused here, before anything is written.
+        if let Some(Err(refusal)) = runs.peek() {
+            return Err(inode.refused(*refusal));
         }
+        let store = &mut Store::new(&archive, &inode);
+        let stored = self.write(&target, &inode, runs, store)?;
+        output::print(&self.report(&inode, stored, json))
     }
-    Ok(stored)
+}
+
+impl Extract {
+    /// Writes the file, and answers how many of its bytes are stored.
+    fn write(
+        &self,
+        target: &Target,
+        inode: &Inode,
+        runs: Peekable<Runs>,
+        store: &mut Store,
+    ) -> Result<u64, Failure> {
+        let unwritten = |error| Failure::Unwritten {
+            path: self.out.clone(),
+            error,
+        };
+        let temporary = Temporary::beside(target, inode.mode.into()).map_err(unwritten)?;
+        let mut content = Content::new(&temporary.file, inode.size).map_err(unwritten)?;
+        let progress = Progress::new("DONE of ALL bytes written", inode.size);
+        let mut stored = 0;
+        for run in runs {
+            let run = run.map_err(|refusal| inode.refused(refusal))?;
+            if let Some(place) = run.stored {
+                let bytes = store.bytes(place, run.len)?;
+                content.put(run.start, bytes).map_err(unwritten)?;
+                stored += run.len;
+            }
+            progress.add(run.len);
+        }
+        content.finish().map_err(unwritten)?;
+        temporary.place(target).map_err(unwritten)?;
+        Ok(stored)
+    }
+
+    fn report(&self, inode: &Inode, stored: u64, json: bool) -> String {
+        let (sequence, offset, size) = (inode.sequence, inode.offset, inode.size);
+        if json {
+            return Object::new()
+                .text("file", &self.out.to_string_lossy())
+                .number("inode", self.inode)
+                .number("volume", sequence)
+                .number("offset", offset)
+                .number("size", size)
+                .number("stored", stored)
+                .line();
+        }
+        let out = shown(&self.out);
+        let from = format!("inode {} at {offset} of volume {sequence}", self.inode);
+        let size = count(size, "byte");
+        format!("{out}: {from}, {size}, {stored} of them stored\n")
+    }
 }
 
 /// A file that is all hole at first, and gets bytes in rising order.
-struct Content {
-    file: BufWriter<File>,
+struct Content<'a> {
+    file: BufWriter<&'a File>,
     at: Logical,
 }
 
-impl Content {
-    fn new(file: File, size: u64) -> io::Result<Content> {
+impl<'a> Content<'a> {
+    fn new(file: &'a File, size: u64) -> io::Result<Content<'a>> {
+        if size > MAX_FILE_LEN {
+            let why = format!("it has {size} bytes, and no file here can have more than 2^63 - 1");
+            return Err(io::Error::other(why));
+        }
         file.set_len(size)?;
         let file = BufWriter::new(file);
         let at = Logical(0);
@@ -104,28 +130,7 @@ impl Content {
         self.file.write_all(bytes)
     }
 
-    fn finish(self) -> io::Result<File> {
-        self.file
-            .into_inner()
-            .map_err(io::IntoInnerError::into_error)
+    fn finish(mut self) -> io::Result<()> {
+        self.file.flush()
     }
-}
-
-fn report(out: &Path, number: u64, inode: &Inode, stored: u64, json: bool) -> String {
-    let (sequence, offset, size) = (inode.sequence, inode.offset, inode.size);
-    if json {
-        return Object::new()
-            .text("file", &out.to_string_lossy())
-            .number("inode", number)
-            .number("volume", sequence)
-            .number("offset", offset)
-            .number("size", size)
-            .number("stored", stored)
-            .line();
-    }
-    let from = format!("inode {number} at {offset} of volume {sequence}");
-    format!(
-        "{}: {from}, {size} bytes, {stored} of them stored\n",
-        shown(out)
-    )
 }

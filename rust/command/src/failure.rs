@@ -7,6 +7,7 @@ use std::path::{Path, PathBuf};
 use hdrfs::Refusal;
 
 use crate::json::Object;
+use crate::text::shown;
 
 /// How a command ended.
 #[derive(Clone, Copy, Debug, PartialEq, Eq, PartialOrd, Ord)]
@@ -14,6 +15,9 @@ pub enum Status {
     Accepted,
     Refused,
     WrongUse,
+    /// Whoever read standard output has gone. There is nobody to complain to; but the rest of the
+    /// answer is unsaid, and so this is no success.
+    Unheard,
 }
 
 impl Status {
@@ -22,6 +26,8 @@ impl Status {
             Status::Accepted => 0,
             Status::Refused => 1,
             Status::WrongUse => 2,
+            // What a shell makes of the signal that other tools get.
+            Status::Unheard => 141,
         }
     }
 }
@@ -46,6 +52,7 @@ impl Failure {
     pub fn status(&self) -> Status {
         match self {
             Failure::Refused { .. } | Failure::Unfit { .. } => Status::Refused,
+            Failure::Output(error) if error.kind() == io::ErrorKind::BrokenPipe => Status::Unheard,
             Failure::Usage(_)
             | Failure::Unread { .. }
             | Failure::Unwritten { .. }
@@ -103,30 +110,9 @@ impl fmt::Display for Failure {
     }
 }
 
-/// The name of a file on one line: a name may have line ends and terminal codes in it, which would
-/// look like other lines.
-pub fn shown(path: &Path) -> String {
-    let name = path.to_string_lossy();
-    let mut shown = String::new();
-    for letter in name.chars() {
-        if letter.is_control() {
-            shown.extend(letter.escape_default());
-        } else {
-            shown.push(letter);
-        }
-    }
-    shown
-}
-
 #[cfg(test)]
 mod tests {
     use super::*;
-
-    #[test]
-    fn a_name_stays_on_one_line() {
-        assert_eq!(shown(Path::new("a\nb\u{1b}[0m")), "a\\nb\\u{1b}[0m");
-        assert_eq!(shown(Path::new("pégel 1.vol")), "pégel 1.vol");
-    }
 
     #[test]
     fn a_refusal_is_one_line_with_words() {

@@ -1,51 +1,23 @@
 //! What `--help` prints.
 
-/// What help is asked for.
-#[derive(Clone, Copy, Debug, PartialEq, Eq)]
-pub enum Topic {
-    All,
-    Check,
-    List,
-    Runs,
-    Extract,
-}
-
-impl Topic {
-    /// The command that a topic is about.
-    pub fn name(self) -> &'static str {
-        match self {
-            Topic::All => "",
-            Topic::Check => "check",
-            Topic::List => "list",
-            Topic::Runs => "runs",
-            Topic::Extract => "extract",
-        }
-    }
-}
+use crate::commands::COMMANDS;
 
 pub const VERSION: &str = concat!("hdrfs ", env!("CARGO_PKG_VERSION"), "\n");
 
-pub fn text(topic: Topic) -> &'static str {
-    match topic {
-        Topic::All => ALL,
-        Topic::Check => CHECK,
-        Topic::List => LIST,
-        Topic::Runs => RUNS,
-        Topic::Extract => EXTRACT,
-    }
+/// The help that goes with no command.
+pub fn general() -> String {
+    let summaries: String = COMMANDS.iter().map(|command| command.summary).collect();
+    format!("{BEFORE}{summaries}{AFTER}")
 }
 
-const ALL: &str = "\
+const BEFORE: &str = "\
 hdrfs reads HDRFS volumes, the yearly archives of water-level networks.
 
-  hdrfs check FILE.. [-j N]                whether volumes are sound
-  hdrfs list FILE                          the blocks of a volume
-  hdrfs runs FILE.. --inode N [--from A] [--to B]
-                                           where the bytes of a file are stored
-  hdrfs extract FILE.. --inode N -o OUT    the content of a file
+";
 
+const AFTER: &str = "
   --json       one JSON object a line, for machines; numbers go up to 2^64 - 1
-  --help       this text; after a command, more about it
+  --help       this text; after a command, more about it (or: hdrfs help check)
   --version    the version
   --           what follows are names of files, even if they begin with -
 
@@ -58,12 +30,30 @@ Exit status: 0 accepted; 1 refused; 2 wrong use, or a file that cannot be read
 or written.
 ";
 
-const CHECK: &str = "\
+pub const CHECK_SUMMARY: &str = "\
+\x20 hdrfs check FILE.. [-j N]                whether volumes are sound
+";
+
+pub const LIST_SUMMARY: &str = "\
+\x20 hdrfs list FILE                          the blocks of a volume
+";
+
+pub const RUNS_SUMMARY: &str = "\
+\x20 hdrfs runs FILE.. --inode N [--from A] [--to B]
+                                           where the bytes of a file are stored
+";
+
+pub const EXTRACT_SUMMARY: &str = "\
+\x20 hdrfs extract FILE.. --inode N -o OUT    the content of a file
+";
+
+pub const CHECK: &str = "\
 hdrfs check FILE.. [-j N] [--json]
 
 Checks whole volumes. Prints a line for each, in the order given, and a summary.
 
-  -j N, --jobs N    check up to N volumes at a time (1 if not given)
+  -j N, --jobs N    check up to N volumes at a time (as many as there
+                    are cores, if not given)
   --json            an object a file, and no summary: file, sequence, blocks,
                     end, and time if there is a last one; or file, refused,
                     offset and words; or file and error
@@ -72,7 +62,7 @@ Exit status: 0 all are sound; 1 some are refused; 2 wrong use, or some cannot
 be read.
 ";
 
-const LIST: &str = "\
+pub const LIST: &str = "\
 hdrfs list FILE [--json]
 
 Lists the blocks of a volume: where each begins, the number of its kind and its
@@ -89,7 +79,7 @@ Exit status: 0 the volume is sound; 1 it is refused; 2 wrong use, or it cannot
 be read.
 ";
 
-const RUNS: &str = "\
+pub const RUNS: &str = "\
 hdrfs runs FILE.. --inode N [--from A] [--to B] [--json]
 
 Prints where the bytes of a regular file are stored, a line a run: position,
@@ -109,7 +99,7 @@ number that has it, the last block.
 Exit status: 0 done; 1 refused; 2 wrong use, or a file that cannot be read.
 ";
 
-const EXTRACT: &str = "\
+pub const EXTRACT: &str = "\
 hdrfs extract FILE.. --inode N -o OUT [--json]
 
 Writes the content of a regular file to OUT. Holes stay holes. OUT appears, or

@@ -2,6 +2,8 @@
 
 use std::fmt::Write;
 
+use crate::text::is_hidden;
+
 /// An object, key by key, in the order given.
 #[derive(Debug, Default)]
 pub struct Object {
@@ -39,8 +41,7 @@ impl Object {
     }
 }
 
-/// Quotes a text. Beyond what has to be escaped, so are the codes from 7F to 9F, with which
-/// terminals can be steered.
+/// Quotes a text. Beyond what has to be escaped, so is all that would steer a terminal.
 fn quote(text: &str, out: &mut String) {
     out.push('"');
     for letter in text.chars() {
@@ -50,8 +51,8 @@ fn quote(text: &str, out: &mut String) {
             '\n' => out.push_str("\\n"),
             '\r' => out.push_str("\\r"),
             '\t' => out.push_str("\\t"),
-            // All control characters are below 10000, so that four digits do.
-            letter if letter.is_control() => {
+            // All of them are below 10000, so that four digits do.
+            letter if is_hidden(letter) => {
                 let _ = write!(out, "\\u{:04x}", u32::from(letter));
             }
             letter => out.push(letter),

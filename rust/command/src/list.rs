@@ -1,15 +1,33 @@
 //! `hdrfs list`: the blocks of a volume, in the form of the library's own listing.
 
-use std::path::Path;
+use std::path::{Path, PathBuf};
 
 use hdrfs::{Block, Refusal, Volume};
 
+use crate::commands::Request;
 use crate::failure::{Failure, Status};
 use crate::input;
 use crate::json::Object;
 use crate::output::Lines;
+use crate::words::Words;
 
-pub fn run(path: &Path, json: bool) -> Result<Status, Failure> {
+#[derive(Debug)]
+pub struct List {
+    pub file: PathBuf,
+}
+
+impl Request for List {
+    fn parse(words: &mut Words) -> Result<List, String> {
+        let file = words.file()?;
+        Ok(List { file })
+    }
+
+    fn run(&self, json: bool) -> Result<Status, Failure> {
+        list(&self.file, json)
+    }
+}
+
+fn list(path: &Path, json: bool) -> Result<Status, Failure> {
     let volume = input::read(path)?;
     let mut lines = Lines::new();
     if !json {

@@ -2,11 +2,11 @@
 //!
 //! It opens files, calls the library and prints. Whatever is decided about the bytes of a volume,
 //! the library decides.
-#![forbid(unsafe_code)]
+#![deny(unsafe_code)]
 
 mod archive;
-mod args;
 mod check;
+mod commands;
 mod extract;
 mod failure;
 mod help;
@@ -14,55 +14,47 @@ mod input;
 mod json;
 mod list;
 mod output;
+mod progress;
 mod runs;
 mod store;
+#[allow(unsafe_code)]
+mod system;
+mod target;
 mod temporary;
+mod text;
+mod words;
 
 use std::env;
-use std::io;
 use std::process::ExitCode;
 
-use args::Request;
+use commands::Asked;
 use failure::{Failure, Status};
 
 fn main() -> ExitCode {
-    let status = match args::parse(env::args_os().skip(1)) {
-        Ok((request, json)) => match perform(&request, json) {
-            Ok(status) => status,
-            Err(failure) => say(&failure, json),
-        },
-        Err(failure) => say(&failure, false),
-    };
+    let (asked, json) = commands::read(env::args_os().skip(1));
+    let answer = asked.and_then(|asked| match asked {
+        Asked::Text(text) => output::print(&text),
+        Asked::Request(request) => request.run(json),
+    });
+    let status = answer.unwrap_or_else(|failure| tell(&failure, json));
+    if status == Status::Unheard {
+        system::end_by_closed_pipe();
+    }
     ExitCode::from(status.code())
 }
 
-fn perform(request: &Request, json: bool) -> Result<Status, Failure> {
-    match request {
-        Request::Help(topic) => output::print(help::text(*topic)),
-        Request::Version => output::print(help::VERSION),
-        Request::Check { files, jobs } => check::run(files, *jobs, json),
-        Request::List { file } => list::run(file, json),
-        Request::Runs {
-            files,
-            inode,
-            range,
-        } => runs::run(files, *inode, *range, json),
-        Request::Extract { files, inode, out } => extract::run(files, *inode, out, json),
-    }
-}
-
 /// Says why nothing came of it: for machines in the place where they look for answers.
-fn say(failure: &Failure, json: bool) -> Status {
-    if is_closed_pipe(failure) {
-        return failure.status();
+fn tell(failure: &Failure, json: bool) -> Status {
+    if failure.status() == Status::Unheard {
+        return Status::Unheard;
     }
-    if !json || output::print(&failure.json()).is_err() {
-        eprintln!("{failure}");
+    if json {
+        match output::print(&failure.json()) {
+            Ok(_) => return failure.status(),
+            Err(unsaid) if unsaid.status() == Status::Unheard => return Status::Unheard,
+            Err(_) => (),
+        }
     }
+    output::say(failure);
     failure.status()
-}
-
-/// Whoever read our output has gone. There is nobody to complain to.
-fn is_closed_pipe(failure: &Failure) -> bool {
-    matches!(failure, Failure::Output(error) if error.kind() == io::ErrorKind::BrokenPipe)
 }

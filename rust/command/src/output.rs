@@ -1,6 +1,7 @@
-//! Standard output. Every failure to write there is passed on, so that a full disk does not look
-//! like an answer.
+//! Standard output and standard error. Every failure to write an answer is passed on, so that a
+//! full disk does not look like an answer.
 
+use std::fmt;
 use std::io::{self, BufWriter, StdoutLock, Write};
 
 use crate::failure::{Failure, Status};
@@ -28,4 +29,9 @@ pub fn print(text: &str) -> Result<Status, Failure> {
     lines.put(text)?;
     lines.flush()?;
     Ok(Status::Accepted)
+}
+
+/// Says something on standard error. If nobody can be told, the exit status still says it.
+pub fn say(what: impl fmt::Display) {
+    let _ = writeln!(io::stderr(), "{what}");
 }

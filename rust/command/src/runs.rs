@@ -5,34 +5,50 @@ use std::path::PathBuf;
 use hdrfs::{Logical, Run};
 
 use crate::archive;
-use crate::args::Positions;
+use crate::commands::Request;
 use crate::failure::{Failure, Status};
 use crate::json::Object;
 use crate::output::Lines;
+use crate::words::Words;
 
-pub fn run(
-    files: &[PathBuf],
-    number: u64,
-    range: Positions,
-    json: bool,
-) -> Result<Status, Failure> {
-    let (archive, inode) = archive::open(files, number)?;
-    let file = inode.file(&archive.lengths);
-    let mut runs = file.runs(Logical(range.from), Logical(range.to)).peekable();
-    // A refusal comes before everything else, and so before the heading.
-    if let Some(Err(refusal)) = runs.peek() {
-        return Err(inode.refused(*refusal));
+#[derive(Debug)]
+pub struct Runs {
+    pub files: Vec<PathBuf>,
+    pub inode: u64,
+    /// The first position, and the one after the last.
+    pub from: u64,
+    pub to: u64,
+}
+
+impl Request for Runs {
+    fn parse(words: &mut Words) -> Result<Runs, String> {
+        Ok(Runs {
+            inode: words.inode()?,
+            from: words.number("--from")?.unwrap_or(0),
+            to: words.number("--to")?.unwrap_or(u64::MAX),
+            files: words.files()?,
+        })
     }
-    let mut lines = Lines::new();
-    if !json {
-        lines.put("start length kind volume offset\n")?;
+
+    fn run(&self, json: bool) -> Result<Status, Failure> {
+        let (archive, inode) = archive::open(&self.files, self.inode)?;
+        let file = inode.file(&archive.lengths);
+        let mut runs = file.runs(Logical(self.from), Logical(self.to)).peekable();
+        // A refusal comes before everything else, and so before the heading.
+        if let Some(Err(refusal)) = runs.peek() {
+            return Err(inode.refused(*refusal));
+        }
+        let mut lines = Lines::new();
+        if !json {
+            lines.put("start length kind volume offset\n")?;
+        }
+        for run in runs {
+            let run = run.map_err(|refusal| inode.refused(refusal))?;
+            lines.put(&line(&run, json))?;
+        }
+        lines.flush()?;
+        Ok(Status::Accepted)
     }
-    for run in runs {
-        let run = run.map_err(|refusal| inode.refused(refusal))?;
-        lines.put(&line(&run, json))?;
-    }
-    lines.flush()?;
-    Ok(Status::Accepted)
 }
 
 fn line(run: &Run, json: bool) -> String {

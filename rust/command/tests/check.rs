@@ -24,7 +24,7 @@ fn folder(name: &str) -> Folder {
 fn a_sound_volume() {
     let answer = folder("check_sound").run("check sound");
     let lines = "sound: accepted, volume 0, blocks 1, end 104, last time 7\n\
-                 1 files: 1 accepted, 0 refused, 0 not read\n";
+                 1 file: 1 accepted, 0 refused, 0 not read\n";
     answer.is(0, lines, "");
 }
 
@@ -32,7 +32,7 @@ fn a_sound_volume() {
 fn a_refused_volume() {
     let answer = folder("check_refused").run("check damaged");
     let lines = "damaged: refused 5 at 80: checksum wrong\n\
-                 1 files: 0 accepted, 1 refused, 0 not read\n";
+                 1 file: 0 accepted, 1 refused, 0 not read\n";
     answer.is(1, lines, "");
 }
 
@@ -144,7 +144,7 @@ fn of_a_long_file_only_a_part_is_read() {
     let long = File::create(folder.0.join("long")).unwrap();
     long.set_len(1 << 40).unwrap();
     let lines = "long: refused 1 at 0: volume too long\n\
-                 1 files: 0 accepted, 1 refused, 0 not read\n";
+                 1 file: 0 accepted, 1 refused, 0 not read\n";
     folder.run("check long").is(1, lines, "");
     let one_more = File::create(folder.0.join("long")).unwrap();
     one_more.set_len(16_777_217).unwrap();

@@ -3,7 +3,6 @@
 mod support;
 
 use std::fs;
-use std::path::Path;
 
 use support::json::object;
 use support::volumes::{
@@ -236,7 +235,7 @@ fn nothing_is_written_on_wrong_use() {
     );
     wrong(
         "extract v0 v1 --inode 7 -o .",
-        "hdrfs: . is there and is not a regular file",
+        "hdrfs: . names a folder, and not a file to write",
     );
     wrong(
         "extract v0 v1 --inode 7 -o none/out",
@@ -252,43 +251,14 @@ fn nothing_is_written_on_wrong_use() {
     assert_eq!((answer.status, answer.out.as_str()), (2, ""));
 }
 
-#[cfg(target_os = "linux")]
 #[test]
-fn devices_are_not_replaced() {
-    let folder = folder("extract_device");
-    let said = "hdrfs: /dev/null is there and is not a regular file\n";
-    folder
-        .run("extract v0 v1 --inode 7 -o /dev/null")
-        .is(2, "", said);
-    assert!(!Path::new("/dev/null").is_file());
-}
-
-#[test]
-fn a_file_too_large_for_the_disk_leaves_nothing() {
+fn a_file_too_large_for_any_disk_leaves_nothing() {
     let folder = Folder::new("extract_large");
     folder.put("v", &[header(0), file(1, 7, u64::MAX, &[])].concat());
     nothing_is_written(
         &folder,
         "extract v --inode 7 -o out",
         2,
-        "out: cannot be written: ",
+        "out: cannot be written: it has 18446744073709551615 bytes, and no file here can have more",
     );
-}
-
-#[cfg(unix)]
-#[test]
-fn an_existing_file_is_replaced_and_a_link_stays() {
-    use std::os::unix::fs::{symlink, PermissionsExt};
-    let folder = folder("extract_replace");
-    folder.put("old", b"as it was");
-    let private = fs::Permissions::from_mode(0o600);
-    fs::set_permissions(folder.0.join("old"), private.clone()).unwrap();
-    symlink("old", folder.0.join("out")).unwrap();
-    assert_eq!(folder.run("extract v0 v1 --inode 7 -o out").status, 0);
-    assert_eq!(folder.read("old"), REPEATED_BYTES);
-    assert!(fs::symlink_metadata(folder.0.join("out"))
-        .unwrap()
-        .is_symlink());
-    let after = fs::metadata(folder.0.join("old")).unwrap().permissions();
-    assert_eq!(after.mode() & 0o777, 0o600);
 }

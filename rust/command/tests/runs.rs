@@ -1,13 +1,9 @@
-//! `hdrfs runs`, and what becomes of output that nobody takes.
+//! `hdrfs runs`.
 
 mod support;
 
-use std::fs::File;
-use std::io::{BufRead, BufReader};
-use std::process::Stdio;
-
 use support::json::object;
-use support::volumes::{file, header, repeated_extent, small_volume, table, Extent, REPEATED};
+use support::volumes::{file, header, repeated_extent, small_volume, table};
 use support::Folder;
 
 /// Volume 0 with stored bytes, and volume 1 with the inode of a file that keeps some of them three
@@ -102,55 +98,4 @@ fn refusals_for_machines() {
     let none = object([("error", "no inode 8 in the volumes given".into())]);
     assert_eq!(answer.objects(), [none]);
     assert_eq!((answer.status, answer.err.as_str()), (1, ""));
-}
-
-#[test]
-fn a_reader_that_goes_away_ends_the_command() {
-    let folder = Folder::new("runs_pipe");
-    // Its runs would take longer to print than anybody lives.
-    let endless = Extent {
-        multiplicity: REPEATED,
-        count: u64::MAX,
-        ..Extent::once(0, 97, 1, 0)
-    };
-    folder.put(
-        "v0",
-        &[small_volume(), file(8, 7, u64::MAX, &[endless])].concat(),
-    );
-    let mut command = folder.command();
-    command.args(["runs", "v0", "--inode", "7"]);
-    let mut child = command
-        .stdout(Stdio::piped())
-        .stderr(Stdio::piped())
-        .spawn()
-        .unwrap();
-    let mut lines = BufReader::new(child.stdout.take().unwrap()).lines();
-    assert_eq!(lines.nth(1).unwrap().unwrap(), "0 1 1 0 97");
-    drop(lines);
-    let output = child.wait_with_output().unwrap();
-    assert!(output.status.code().is_some());
-    assert_eq!(String::from_utf8_lossy(&output.stderr), "");
-}
-
-#[cfg(target_os = "linux")]
-#[test]
-fn output_that_cannot_be_written_is_no_success() {
-    let folder = folder("runs_full");
-    for line in [
-        "runs v0 v1 --inode 7",
-        "list v0",
-        "check v0",
-        "--help",
-        "check v0 --json",
-    ] {
-        let full = File::options().write(true).open("/dev/full").unwrap();
-        let mut command = folder.command();
-        let output = command.args(line.split(' ')).stdout(full).output().unwrap();
-        assert_eq!(output.status.code(), Some(2), "{line}");
-        let said = String::from_utf8_lossy(&output.stderr);
-        assert!(
-            said.starts_with("hdrfs: cannot write to standard output"),
-            "{line}: {said}"
-        );
-    }
 }

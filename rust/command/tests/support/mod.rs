@@ -2,6 +2,8 @@
 #![allow(dead_code)] // Each test file uses a part of this one.
 
 pub mod json;
+pub mod signals;
+pub mod terminal;
 
 #[path = "../../../hdrfs/tests/support/mod.rs"]
 pub mod volumes;

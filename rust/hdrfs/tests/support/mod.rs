@@ -104,7 +104,7 @@ impl Extent {
         }
     }
 
-    fn bytes(&self) -> Vec<u8> {
+    pub fn bytes(&self) -> Vec<u8> {
         let mut bytes = Vec::new();
         for number in [self.volume, self.start, self.size] {
             bytes.extend(number.to_le_bytes());

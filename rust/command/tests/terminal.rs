@@ -1,0 +1,97 @@
+//! A terminal, tested as one: the line that shows progress, and that it is taken away.
+
+mod support;
+
+use std::fs::File;
+use std::io::Write;
+use std::process::{Child, Command, Stdio};
+
+use support::terminal::Terminal;
+use support::volumes::{file, header, small_volume, table, Extent};
+use support::Folder;
+
+/// A folder with a volume, and a pipe through which another will come.
+fn folder(name: &str) -> Folder {
+    let folder = Folder::new(name);
+    folder.put("v0", &small_volume());
+    let made = Command::new("mkfifo").arg(folder.0.join("slow")).status();
+    assert!(made.unwrap().success());
+    folder
+}
+
+/// The volume that comes through the pipe.
+fn slow() -> Vec<u8> {
+    let extent = Extent::once(0, 97, 3, 0);
+    [header(1), table(&[]), file(8, 7, 3, &[extent])].concat()
+}
+
+/// Runs a command with standard error, and perhaps standard output, on a terminal of this kind.
+fn start(folder: &Folder, line: &str, kind: &str, both: bool) -> (Child, Terminal) {
+    let (terminal, far) = Terminal::open();
+    // A test that waits for what never comes has to end too.
+    let mut command = Command::new("timeout");
+    command.args(["--foreground", "120", env!("CARGO_BIN_EXE_hdrfs")]);
+    command.args(line.split(' ')).env("TERM", kind);
+    command.current_dir(&folder.0);
+    match both {
+        true => command.stdout(far.try_clone().unwrap()),
+        false => command.stdout(Stdio::null()),
+    };
+    (command.stderr(far).spawn().unwrap(), terminal)
+}
+
+fn feed(folder: &Folder) {
+    // To open it waits for the command to read from it.
+    let mut pipe = File::options()
+        .write(true)
+        .open(folder.0.join("slow"))
+        .unwrap();
+    pipe.write_all(&slow()).unwrap();
+}
+
+#[test]
+fn a_check_that_takes_long_shows_how_far_it_is() {
+    let folder = folder("terminal_check");
+    let line = "check v0 slow -j 1";
+    let (mut child, mut terminal) = start(&folder, line, "xterm", true);
+    terminal.wait_for("\r1 of 2 volumes checked\x1b[K");
+    feed(&folder);
+    assert!(child.wait().unwrap().success());
+    let seen = terminal.read_to_end();
+    // The line is taken away before anything else is printed, and at the end.
+    assert!(
+        seen.contains("\r\x1b[Kslow: accepted, volume 1"),
+        "{seen:?}"
+    );
+    let (_, last) = seen.rsplit_once("\x1b[K").unwrap();
+    assert!(!last.contains("volumes checked"), "{seen:?}");
+    assert!(
+        seen.ends_with("2 files: 2 accepted, 0 refused, 0 not read\r\n"),
+        "{seen:?}"
+    );
+}
+
+#[test]
+fn a_dumb_terminal_gets_no_codes() {
+    for kind in ["dumb", ""] {
+        let folder = folder(&format!("terminal_dumb{kind}"));
+        let line = "check v0 slow -j 1";
+        let (mut child, mut terminal) = start(&folder, line, kind, true);
+        terminal.wait_for("v0: accepted");
+        feed(&folder);
+        assert!(child.wait().unwrap().success());
+        let seen = terminal.read_to_end();
+        assert!(!seen.contains('\x1b'), "{seen:?}");
+        assert_eq!(seen.lines().count(), 3, "{seen:?}");
+    }
+}
+
+#[test]
+fn a_short_check_shows_nothing_but_its_answer() {
+    let folder = folder("terminal_short");
+    let (mut child, terminal) = start(&folder, "check v0", "xterm", false);
+    assert!(child.wait().unwrap().success());
+    let seen = terminal.read_to_end();
+    // A machine that is busy may take longer than a second all the same.
+    assert!(seen.is_empty() || seen.ends_with("\r\x1b[K"), "{seen:?}");
+}
