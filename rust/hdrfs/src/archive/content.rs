@@ -210,16 +210,27 @@ impl<'a> Content<'a> {
             })
     }
 
-    /// Fills the buffer from a position on, as far as the file goes, and answers how far.
+    /// Fills the buffer from a position on, as far as the file goes and until something fails, and
+    /// answers how far. A failure is an error where there is nothing before it.
     pub(super) fn read(&mut self, position: u64, buf: &mut [u8]) -> Result<usize, ArchiveError> {
         let mut done = 0;
         while done < buf.len() {
-            let Some(run) = self.run(position + done as u64)? else {
-                break;
-            };
-            done += self.read_run(&run, &mut buf[done..])?;
+            match self.read_from(position + done as u64, &mut buf[done..]) {
+                Ok(0) => break,
+                Ok(len) => done += len,
+                Err(error) if done == 0 => return Err(error),
+                Err(_) => break,
+            }
         }
         Ok(done)
+    }
+
+    /// Fills the buffer with what one run has from a position on, and answers how far.
+    fn read_from(&mut self, position: u64, buf: &mut [u8]) -> Result<usize, ArchiveError> {
+        match self.run(position)? {
+            Some(run) => self.read_run(&run, buf),
+            None => Ok(0),
+        }
     }
 
     /// Fills the buffer with the beginning of a run, and answers how far.

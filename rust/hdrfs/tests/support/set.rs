@@ -92,6 +92,18 @@ pub fn once(volume: u64, start: Physical, len: u64, logical: u64) -> Extent {
     Extent::once(volume, start, len, Logical(logical))
 }
 
+/// A sequence of numbers that look random and are the same in every run.
+pub struct Numbers(pub u64);
+
+impl Numbers {
+    pub fn below(&mut self, limit: u64) -> u64 {
+        self.0 ^= self.0 << 13;
+        self.0 ^= self.0 >> 7;
+        self.0 ^= self.0 << 17;
+        self.0 % limit
+    }
+}
+
 /// A folder of its own for a test, which goes with the value.
 pub struct Folder(PathBuf);
 
