@@ -1,31 +1,19 @@
-//! `hdrfs check`: whether volumes are sound.
+//! `hdrfs check`: whether volumes are sound, and whether they are one set.
 
-use std::collections::BTreeMap;
 use std::num::NonZeroUsize;
-use std::path::{Path, PathBuf};
-use std::sync::atomic::{AtomicUsize, Ordering};
-use std::sync::mpsc::{self, Receiver, Sender};
-use std::thread;
+use std::ops::ControlFlow;
+use std::path::PathBuf;
 
-use hdrfs::{Bookmark, Volume};
+use hdrfs::{check_each, Archive, ArchiveError, Member};
 
 use crate::commands::Request;
 use crate::failure::{Failure, Status};
 use crate::input;
-use crate::json::Object;
+use crate::json::{list, Object};
 use crate::output;
 use crate::progress::Progress;
-use crate::text::{count, shown};
+use crate::text::{count, hex, listed, shown};
 use crate::words::Words;
-
-/// What an accepted volume says of itself.
-struct Sound {
-    sequence: u64,
-    blocks: u64,
-    end: Bookmark,
-}
-
-type Verdict = Result<Sound, Failure>;
 
 #[derive(Debug)]
 pub struct Check {
@@ -42,162 +30,180 @@ impl Request for Check {
     }
 
     fn run(&self, json: bool) -> Result<Status, Failure> {
-        check_all(&self.files, self.jobs, json)
-    }
-}
-
-fn check_all(files: &[PathBuf], jobs: NonZeroUsize, json: bool) -> Result<Status, Failure> {
-    let next = AtomicUsize::new(0);
-    let (sender, receiver) = mpsc::channel();
-    thread::scope(|scope| {
-        for job in 0..jobs.get().min(files.len()) {
-            let sender = sender.clone();
-            let worker = || work(files, &next, sender);
-            match thread::Builder::new().spawn_scoped(scope, worker) {
-                Ok(_) => (),
-                Err(error) if job == 0 => {
-                    return Err(Failure::Usage(format!("no thread: {error}")))
-                }
-                // The machine has no more threads. Those that run will do all the work.
-                Err(_) => break,
+        let files = input::volumes(&self.files)?;
+        let progress = Progress::new("DONE of ALL volumes checked", files.len() as u64);
+        let mut report = Report::new(json);
+        let ended = check_each(&files, self.jobs, |_, verdict| {
+            progress.add(1);
+            match progress.hidden(|| report.take_in(verdict)) {
+                Ok(()) => ControlFlow::Continue(()),
+                Err(failure) => ControlFlow::Break(failure),
             }
-        }
-        drop(sender);
-        Report::new(files, json).follow(receiver)
-    })
-}
-
-/// Checks one file after the other, until none is left or nobody listens any more.
-fn work(files: &[PathBuf], next: &AtomicUsize, sender: Sender<(usize, Verdict)>) {
-    let mut buffer = Vec::new();
-    loop {
-        let index = next.fetch_add(1, Ordering::Relaxed);
-        let Some(path) = files.get(index) else {
-            return;
-        };
-        if sender.send((index, check(path, &mut buffer))).is_err() {
-            return;
+        });
+        drop(progress);
+        match ended {
+            ControlFlow::Continue(()) => report.finish(),
+            ControlFlow::Break(failure) => Err(failure),
         }
     }
 }
 
-fn check(path: &Path, buffer: &mut Vec<u8>) -> Verdict {
-    input::read_into(path, buffer)?;
-    let checked = Volume::check(buffer).map_err(|rejected| Failure::Refused {
-        path: path.to_path_buf(),
-        refusal: rejected.refusal,
-    })?;
-    Ok(Sound {
-        sequence: checked.sequence(),
-        blocks: checked.block_count(),
-        end: checked.end(),
-    })
-}
-
-/// What is printed, in the order of the files, whichever is ready first.
-struct Report<'a> {
-    files: &'a [PathBuf],
+/// What is printed: a line for each volume, and then what holds of all.
+struct Report {
     json: bool,
-    progress: Progress,
-    accepted: usize,
-    refused: usize,
-    unread: usize,
+    accepted: u64,
+    refused: u64,
+    unread: u64,
+    set: Archive,
+    /// Why the accepted volumes are no set.
+    no_set: Option<Failure>,
 }
 
-impl<'a> Report<'a> {
-    fn new(files: &'a [PathBuf], json: bool) -> Report<'a> {
+impl Report {
+    fn new(json: bool) -> Report {
         Report {
-            files,
             json,
-            progress: Progress::new("DONE of ALL volumes checked", files.len() as u64),
             accepted: 0,
             refused: 0,
             unread: 0,
+            set: Archive::new(),
+            no_set: None,
         }
     }
 
-    fn follow(mut self, receiver: Receiver<(usize, Verdict)>) -> Result<Status, Failure> {
-        let mut early = BTreeMap::new();
-        let mut due = 0;
-        for (index, verdict) in receiver {
-            self.progress.add(1);
-            early.insert(index, verdict);
-            while let Some(verdict) = early.remove(&due) {
-                let path = &self.files[due];
-                self.progress.hidden(|| self.put(path, &verdict))?;
-                self.count(&verdict);
-                due += 1;
+    fn take_in(&mut self, verdict: Result<Member, ArchiveError>) -> Result<(), Failure> {
+        match verdict {
+            Ok(member) => {
+                self.accepted += 1;
+                self.put(&member)?;
+                if self.no_set.is_none() {
+                    self.no_set = self.set.insert(member).err().map(Failure::from);
+                }
+                Ok(())
             }
+            Err(error) => self.put_failure(&error.into()),
         }
-        self.finish()
     }
 
-    fn put(&self, path: &Path, verdict: &Verdict) -> Result<(), Failure> {
-        let line = match verdict {
-            Ok(sound) if self.json => sound.object(path).line(),
-            Ok(sound) => format!("{}: {}\n", shown(path), sound.words()),
-            Err(failure) if self.json => failure.json(),
-            Err(failure @ Failure::Refused { .. }) => format!("{failure}\n"),
-            Err(failure) => {
-                output::say(failure);
-                return Ok(());
-            }
+    fn put(&self, member: &Member) -> Result<(), Failure> {
+        let line = match self.json {
+            true => object(member).line(),
+            false => format!("{}: {}\n", shown(member.path()), words(member)),
         };
         output::print(&line).map(|_| ())
     }
 
-    fn count(&mut self, verdict: &Verdict) {
-        match verdict {
-            Ok(_) => self.accepted += 1,
-            Err(Failure::Refused { .. }) => self.refused += 1,
-            Err(_) => self.unread += 1,
+    fn put_failure(&mut self, failure: &Failure) -> Result<(), Failure> {
+        let is_refused = failure.status() == Status::Refused;
+        *(if is_refused {
+            &mut self.refused
+        } else {
+            &mut self.unread
+        }) += 1;
+        let line = match self.json {
+            true => failure.json(),
+            false => format!("{failure}\n"),
+        };
+        if !self.json && !is_refused {
+            output::say(failure);
+            return Ok(());
         }
+        output::print(&line).map(|_| ())
     }
 
-    /// The summary for people; machines can count their lines. A file that could not be read
-    /// outweighs a refused one, since nothing is known about it.
+    /// What holds of all volumes. A file that could not be read outweighs a refused one, since
+    /// nothing is known about it.
     fn finish(self) -> Result<Status, Failure> {
         let (accepted, refused, unread) = (self.accepted, self.refused, self.unread);
-        drop(self.progress);
+        let all = accepted + refused + unread;
+        let mut text = String::new();
         if !self.json {
-            let all = count(self.files.len() as u64, "file");
+            let all = count(all, "file");
             let counts = format!("{accepted} accepted, {refused} refused, {unread} not read");
-            output::print(&format!("{all}: {counts}\n"))?;
+            text = format!("{all}: {counts}\n");
         }
-        Ok(match (refused, unread) {
-            (0, 0) => Status::Accepted,
-            (_, 0) => Status::Refused,
-            _ => Status::WrongUse,
+        // One volume is always a set.
+        if all > 1 && accepted > 0 {
+            text += &match self.json {
+                true => self.set_object().line(),
+                false => self.set_words(),
+            };
+        }
+        output::print(&text)?;
+        Ok(match (refused, unread, self.no_set) {
+            (_, 1.., _) => Status::WrongUse,
+            (0, 0, None) => Status::Accepted,
+            _ => Status::Refused,
         })
+    }
+
+    fn set_words(&self) -> String {
+        let whole = match self.refused + self.unread {
+            0 => "",
+            _ => "of those accepted: ",
+        };
+        if let Some(failure) = &self.no_set {
+            return format!("{whole}not one set: {failure}\n");
+        }
+        let gap = |first: u64, last: u64| match first == last {
+            true => format!("{first}"),
+            false => format!("{first} to {last}"),
+        };
+        let id = hex(&self.set.id().unwrap_or_default());
+        let mut sequences = self.set.volumes().map(Member::sequence);
+        let first = sequences.next().unwrap_or(0);
+        let numbers = gap(first, sequences.next_back().unwrap_or(first));
+        let gaps: Vec<String> = self
+            .set
+            .gaps()
+            .map(|range| gap(*range.start(), *range.end()))
+            .collect();
+        let missing = match gaps.is_empty() {
+            true => "none missing".to_string(),
+            false => format!("missing {}", listed(&gaps)),
+        };
+        format!("{whole}one set: file system {id}, volumes {numbers}, {missing}\n")
+    }
+
+    fn set_object(&self) -> Object {
+        let object = Object::new().truth("set", self.no_set.is_none());
+        if let Some(failure) = &self.no_set {
+            return object.text("error", &failure.to_string());
+        }
+        let pair = |first: u64, last: u64| list([first.to_string(), last.to_string()]);
+        let gaps = self
+            .set
+            .gaps()
+            .map(|range| pair(*range.start(), *range.end()));
+        object
+            .text("id", &hex(&self.set.id().unwrap_or_default()))
+            .number("volumes", self.set.volumes().count() as u64)
+            .raw("missing", &list(gaps))
     }
 }
 
-impl Sound {
-    fn words(&self) -> String {
-        let Sound {
-            sequence,
-            blocks,
-            end,
-        } = self;
-        let time = match end.last_time {
-            Some(time) => format!("last time {time}"),
-            None => "no time".to_string(),
-        };
-        format!(
-            "accepted, volume {sequence}, blocks {blocks}, end {}, {time}",
-            end.offset
-        )
-    }
+/// What an accepted volume says of itself.
+fn words(member: &Member) -> String {
+    let (sequence, blocks, end) = (member.sequence(), member.block_count(), member.end());
+    let time = match end.last_time {
+        Some(time) => format!("last time {time}"),
+        None => "no time".to_string(),
+    };
+    let end = end.offset;
+    format!("accepted, volume {sequence}, blocks {blocks}, end {end}, {time}")
+}
 
-    fn object(&self, path: &Path) -> Object {
-        let object = Object::new()
-            .text("file", &path.to_string_lossy())
-            .number("sequence", self.sequence)
-            .number("blocks", self.blocks)
-            .number("end", self.end.offset);
-        match self.end.last_time {
-            Some(time) => object.number("time", time),
-            None => object,
-        }
+fn object(member: &Member) -> Object {
+    let end = member.end();
+    let object = Object::new()
+        .text("file", &member.path().to_string_lossy())
+        .number("sequence", member.sequence())
+        .text("id", &hex(&member.id()))
+        .text("previous", &hex(&member.previous()))
+        .number("blocks", member.block_count())
+        .number("end", end.offset);
+    match end.last_time {
+        Some(time) => object.number("time", time),
+        None => object,
     }
 }

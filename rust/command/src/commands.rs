@@ -7,6 +7,7 @@ use crate::check::Check;
 use crate::extract::Extract;
 use crate::failure::{Failure, Status};
 use crate::help;
+use crate::inodes::Inodes;
 use crate::list::List;
 use crate::runs::Runs;
 use crate::text::shown;
@@ -22,7 +23,7 @@ pub struct Command {
     pub parse: fn(&mut Words) -> Result<Box<dyn Request>, String>,
 }
 
-pub const COMMANDS: [Command; 4] = [
+pub const COMMANDS: [Command; 5] = [
     Command {
         name: "check",
         summary: help::CHECK_SUMMARY,
@@ -34,6 +35,12 @@ pub const COMMANDS: [Command; 4] = [
         summary: help::LIST_SUMMARY,
         help: help::LIST,
         parse: parse::<List>,
+    },
+    Command {
+        name: "inodes",
+        summary: help::INODES_SUMMARY,
+        help: help::INODES,
+        parse: parse::<Inodes>,
     },
     Command {
         name: "runs",

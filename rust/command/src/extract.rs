@@ -1,19 +1,20 @@
 //! `hdrfs extract`: the content of a file, written to a file or to standard output.
 
 use std::fs::File;
-use std::io::{self, BufWriter, Seek, SeekFrom, Write};
-use std::iter::Peekable;
+use std::io::{self, Write};
+use std::num::NonZeroUsize;
+use std::os::unix::fs::FileExt;
 use std::path::PathBuf;
 
-use hdrfs::{Logical, Runs};
+use hdrfs::{ArchiveFile, Chunk};
 
-use crate::archive::{self, Inode};
 use crate::commands::Request;
 use crate::failure::{Failure, Status};
+use crate::input;
 use crate::json::Object;
 use crate::output;
 use crate::progress::Progress;
-use crate::store::Store;
+use crate::set;
 use crate::target::Target;
 use crate::temporary::Temporary;
 use crate::text::{count, shown};
@@ -27,6 +28,7 @@ pub struct Extract {
     pub files: Vec<PathBuf>,
     pub inode: u64,
     pub out: PathBuf,
+    pub jobs: NonZeroUsize,
 }
 
 impl Request for Extract {
@@ -34,103 +36,158 @@ impl Request for Extract {
         Ok(Extract {
             inode: words.inode()?,
             out: words.output()?,
+            jobs: words.jobs()?,
             files: words.files()?,
         })
     }
 
     fn run(&self, json: bool) -> Result<Status, Failure> {
-        let target = Target::find(&self.out, &self.files)?;
-        let (archive, inode) = archive::open(&self.files, self.inode)?;
-        let mut runs = inode.file(&archive.lengths).all_runs().peekable();
-        // Whatever is refused about the file is refused here, before anything is written.
-        if let Some(Err(refusal)) = runs.peek() {
-            return Err(inode.refused(*refusal));
+        let files = input::volumes(&self.files)?;
+        if self.out.as_os_str() != "-" {
+            let target = Target::find(&self.out, &files)?;
+            let report = self.extract(&files, |file| self.to_file(&target, file))?;
+            return output::print(&report.line(json));
         }
-        let store = &mut Store::new(&archive, &inode);
-        let stored = self.write(&target, &inode, runs, store)?;
-        output::print(&self.report(&inode, stored, json))
+        // Standard output has the content, and so objects for machines go to standard error.
+        match self.extract(&files, to_output) {
+            Ok(report) if json => output::say(report.line(json).trim_end()),
+            Ok(_) => (),
+            Err(failure) if json && failure.status() != Status::Unheard => {
+                output::say(failure.json().trim_end());
+                return Ok(failure.status());
+            }
+            Err(failure) => return Err(failure),
+        }
+        Ok(Status::Accepted)
     }
 }
 
 impl Extract {
-    /// Writes the file, and answers how many of its bytes are stored.
-    fn write(
+    /// Opens the file and hands it on to be written. Whatever is refused about it is refused before
+    /// that. `write` answers how many bytes are stored.
+    fn extract(
         &self,
-        target: &Target,
-        inode: &Inode,
-        runs: Peekable<Runs>,
-        store: &mut Store,
-    ) -> Result<u64, Failure> {
+        files: &[PathBuf],
+        write: impl FnOnce(&ArchiveFile) -> Result<u64, Failure>,
+    ) -> Result<Report, Failure> {
+        let archive = set::open(files, self.jobs)?;
+        let file = set::file(&archive, self.inode)?;
+        let stored = write(&file)?;
+        let inode = file.current();
+        Ok(Report {
+            out: self.out.clone(),
+            inode: self.inode,
+            volume: inode.volume,
+            offset: inode.offset,
+            size: inode.size,
+            stored,
+        })
+    }
+
+    fn to_file(&self, target: &Target, file: &ArchiveFile) -> Result<u64, Failure> {
         let unwritten = |error| Failure::Unwritten {
             path: self.out.clone(),
             error,
         };
-        let temporary = Temporary::beside(target, inode.mode.into()).map_err(unwritten)?;
-        let mut content = Content::new(&temporary.file, inode.size).map_err(unwritten)?;
-        let progress = Progress::new("DONE of ALL bytes written", inode.size);
-        let mut stored = 0;
-        for run in runs {
-            let run = run.map_err(|refusal| inode.refused(refusal))?;
-            if let Some(place) = run.stored {
-                let bytes = store.bytes(place, run.len)?;
-                content.put(run.start, bytes).map_err(unwritten)?;
-                stored += run.len;
-            }
-            progress.add(run.len);
-        }
-        content.finish().map_err(unwritten)?;
+        let mode = file.current().mode.into();
+        let temporary = Temporary::beside(target, mode).map_err(unwritten)?;
+        set_len(&temporary.file, file.size()).map_err(unwritten)?;
+        let stored = copy(file, |chunk| match chunk {
+            // The file is all hole at first.
+            Chunk::Hole { .. } => Ok(()),
+            Chunk::Bytes { start, bytes } => temporary
+                .file
+                .write_all_at(bytes, start.0)
+                .map_err(unwritten),
+        })?;
         temporary.place(target).map_err(unwritten)?;
         Ok(stored)
     }
+}
 
-    fn report(&self, inode: &Inode, stored: u64, json: bool) -> String {
-        let (sequence, offset, size) = (inode.sequence, inode.offset, inode.size);
+fn set_len(file: &File, size: u64) -> io::Result<()> {
+    if size > MAX_FILE_LEN {
+        let why = format!("it has {size} bytes, and no file here can have more than 2^63 - 1");
+        return Err(io::Error::other(why));
+    }
+    file.set_len(size)
+}
+
+fn to_output(file: &ArchiveFile) -> Result<u64, Failure> {
+    let mut out = io::stdout().lock();
+    let zeros = [0; 1 << 16];
+    let stored = copy(file, |chunk| match chunk {
+        Chunk::Hole { len, .. } => write_hole(&mut out, &zeros, len).map_err(Failure::Output),
+        Chunk::Bytes { bytes, .. } => out.write_all(bytes).map_err(Failure::Output),
+    })?;
+    out.flush().map_err(Failure::Output)?;
+    Ok(stored)
+}
+
+fn write_hole(out: &mut impl Write, zeros: &[u8], len: u64) -> io::Result<()> {
+    let mut left = len;
+    while left > 0 {
+        let now = left.min(zeros.len() as u64);
+        out.write_all(&zeros[..now as usize])?;
+        left -= now;
+    }
+    Ok(())
+}
+
+/// Hands on all of a file in rising order, and answers how many of its bytes are stored.
+fn copy(
+    file: &ArchiveFile,
+    mut put: impl FnMut(Chunk) -> Result<(), Failure>,
+) -> Result<u64, Failure> {
+    let progress = Progress::new("DONE of ALL bytes written", file.size());
+    let mut stored = 0;
+    let mut chunks = file.chunks();
+    while let Some(chunk) = chunks.next()? {
+        put(chunk)?;
+        match chunk {
+            Chunk::Hole { len, .. } => progress.add(len),
+            Chunk::Bytes { bytes, .. } => {
+                stored += bytes.len() as u64;
+                progress.add(bytes.len() as u64);
+            }
+        }
+    }
+    Ok(stored)
+}
+
+/// What was extracted.
+struct Report {
+    out: PathBuf,
+    inode: u64,
+    volume: u64,
+    offset: u64,
+    size: u64,
+    stored: u64,
+}
+
+impl Report {
+    fn line(&self, json: bool) -> String {
+        let Report {
+            inode,
+            volume,
+            offset,
+            size,
+            stored,
+            ..
+        } = *self;
         if json {
             return Object::new()
                 .text("file", &self.out.to_string_lossy())
-                .number("inode", self.inode)
-                .number("volume", sequence)
+                .number("inode", inode)
+                .number("volume", volume)
                 .number("offset", offset)
                 .number("size", size)
                 .number("stored", stored)
                 .line();
         }
-        let out = shown(&self.out);
-        let from = format!("inode {} at {offset} of volume {sequence}", self.inode);
+        let from = format!("inode {inode} at {offset} of volume {volume}");
         let size = count(size, "byte");
+        let out = shown(&self.out);
         format!("{out}: {from}, {size}, {stored} of them stored\n")
-    }
-}
-
-/// A file that is all hole at first, and gets bytes in rising order.
-struct Content<'a> {
-    file: BufWriter<&'a File>,
-    at: Logical,
-}
-
-impl<'a> Content<'a> {
-    fn new(file: &'a File, size: u64) -> io::Result<Content<'a>> {
-        if size > MAX_FILE_LEN {
-            let why = format!("it has {size} bytes, and no file here can have more than 2^63 - 1");
-            return Err(io::Error::other(why));
-        }
-        file.set_len(size)?;
-        let file = BufWriter::new(file);
-        let at = Logical(0);
-        Ok(Content { file, at })
-    }
-
-    fn put(&mut self, start: Logical, bytes: &[u8]) -> io::Result<()> {
-        // Only a hole needs a new place: to seek writes out the buffer, which is slow for many
-        // short runs.
-        if start != self.at {
-            self.file.seek(SeekFrom::Start(start.0))?;
-        }
-        self.at = Logical(start.0 + bytes.len() as u64);
-        self.file.write_all(bytes)
-    }
-
-    fn finish(mut self) -> io::Result<()> {
-        self.file.flush()
     }
 }

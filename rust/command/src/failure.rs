@@ -4,10 +4,11 @@ use std::fmt;
 use std::io;
 use std::path::{Path, PathBuf};
 
-use hdrfs::Refusal;
+use hdrfs::{ArchiveError, Missing, Refusal};
 
 use crate::json::Object;
-use crate::text::shown;
+use crate::lack;
+use crate::text::{count, shown};
 
 /// How a command ended.
 #[derive(Clone, Copy, Debug, PartialEq, Eq, PartialOrd, Ord)]
@@ -36,37 +37,42 @@ impl Status {
 pub enum Failure {
     /// The words of the command line make no request.
     Usage(String),
-    /// A file cannot be opened or read.
-    Unread { path: PathBuf, error: io::Error },
-    /// The library refuses a volume, or something asked about it.
-    Refused { path: PathBuf, refusal: Refusal },
-    /// The volumes given do not belong together, or lack what is asked for.
-    Unfit { path: Option<PathBuf>, why: String },
+    /// A volume cannot be read or is refused, or volumes do not belong together.
+    Volume(ArchiveError),
+    /// A file is stored in places that the volumes given do not have.
+    Lacking {
+        /// The volume that has its inode block, and the refusal.
+        path: PathBuf,
+        refusal: Refusal,
+        missing: Missing,
+    },
     /// A file cannot be written.
     Unwritten { path: PathBuf, error: io::Error },
     /// Standard output cannot be written.
     Output(io::Error),
 }
 
+impl From<ArchiveError> for Failure {
+    fn from(error: ArchiveError) -> Failure {
+        Failure::Volume(error)
+    }
+}
+
 impl Failure {
     pub fn status(&self) -> Status {
         match self {
-            Failure::Refused { .. } | Failure::Unfit { .. } => Status::Refused,
+            Failure::Volume(ArchiveError::Io { .. }) => Status::WrongUse,
+            Failure::Volume(_) | Failure::Lacking { .. } => Status::Refused,
             Failure::Output(error) if error.kind() == io::ErrorKind::BrokenPipe => Status::Unheard,
-            Failure::Usage(_)
-            | Failure::Unread { .. }
-            | Failure::Unwritten { .. }
-            | Failure::Output(_) => Status::WrongUse,
+            Failure::Usage(_) | Failure::Unwritten { .. } | Failure::Output(_) => Status::WrongUse,
         }
     }
 
     /// The file that it is about.
     fn path(&self) -> Option<&Path> {
         match self {
-            Failure::Unread { path, .. }
-            | Failure::Refused { path, .. }
-            | Failure::Unwritten { path, .. } => Some(path),
-            Failure::Unfit { path, .. } => path.as_deref(),
+            Failure::Volume(error) => path_of(error),
+            Failure::Lacking { path, .. } | Failure::Unwritten { path, .. } => Some(path),
             Failure::Usage(_) | Failure::Output(_) => None,
         }
     }
@@ -75,9 +81,10 @@ impl Failure {
     fn matter(&self) -> String {
         match self {
             Failure::Usage(why) => why.clone(),
-            Failure::Unread { error, .. } => format!("cannot be read: {error}"),
-            Failure::Refused { refusal, .. } => refusal.to_string(),
-            Failure::Unfit { why, .. } => why.clone(),
+            Failure::Volume(error) => matter_of(error),
+            Failure::Lacking {
+                refusal, missing, ..
+            } => format!("{refusal}: {}", lack::words(missing)),
             Failure::Unwritten { error, .. } => format!("cannot be written: {error}"),
             Failure::Output(error) => format!("cannot write to standard output: {error}"),
         }
@@ -89,11 +96,28 @@ impl Failure {
         if let Some(path) = self.path() {
             object = object.text("file", &path.to_string_lossy());
         }
-        match self {
-            Failure::Refused { refusal, .. } => object
+        let refused = |object: Object, refusal: &Refusal| {
+            object
                 .number("refused", refusal.number)
                 .number("offset", refusal.offset)
-                .text("words", refusal.words()),
+                .text("words", refusal.words())
+        };
+        match self {
+            Failure::Volume(ArchiveError::Refused {
+                refusal, blocks, ..
+            }) => blocks
+                .iter()
+                .fold(refused(object, refusal), |object, blocks| {
+                    object.number("blocks", *blocks)
+                }),
+            Failure::Lacking {
+                refusal, missing, ..
+            } => lack::members(missing, refused(object, refusal)),
+            Failure::Volume(
+                ArchiveError::TwoFileSystems { first, .. } | ArchiveError::Twice { first, .. },
+            ) => object
+                .text("other", &first.to_string_lossy())
+                .text("error", &self.matter()),
             _ => object.text("error", &self.matter()),
         }
         .line()
@@ -110,15 +134,51 @@ impl fmt::Display for Failure {
     }
 }
 
+/// The volume that an error is about; where it is about two, the one that was given later.
+fn path_of(error: &ArchiveError) -> Option<&Path> {
+    match error {
+        ArchiveError::Io { path, .. }
+        | ArchiveError::Refused { path, .. }
+        | ArchiveError::Changed { path }
+        | ArchiveError::TwoFileSystems { second: path, .. }
+        | ArchiveError::Twice { second: path, .. } => Some(path),
+        _ => None,
+    }
+}
+
+/// What is the matter with a volume or with volumes, without the name of the first.
+fn matter_of(error: &ArchiveError) -> String {
+    match error {
+        ArchiveError::Io { error, .. } => format!("cannot be read: {error}"),
+        ArchiveError::Refused {
+            refusal,
+            blocks: Some(blocks),
+            ..
+        } => format!("{refusal}; {} accepted before", count(*blocks, "block")),
+        ArchiveError::Refused { refusal, .. } => refusal.to_string(),
+        ArchiveError::Changed { .. } => "changed while it was being read".to_string(),
+        ArchiveError::TwoFileSystems { first, .. } => {
+            let first = shown(first);
+            format!("belongs to another file system than {first}: their IDs differ")
+        }
+        ArchiveError::Twice {
+            sequence, first, ..
+        } => format!("has sequence number {sequence}, as has {}", shown(first)),
+        other => other.to_string(),
+    }
+}
+
 #[cfg(test)]
 mod tests {
     use super::*;
 
     #[test]
     fn a_refusal_is_one_line_with_words() {
-        let refusal = Refusal::new(5, 80);
-        let path = PathBuf::from("a.vol");
-        let failure = Failure::Refused { path, refusal };
+        let failure = Failure::Volume(ArchiveError::Refused {
+            path: PathBuf::from("a.vol"),
+            refusal: Refusal::new(5, 80),
+            blocks: None,
+        });
         assert_eq!(
             failure.to_string(),
             "a.vol: refused 5 at 80: checksum wrong"

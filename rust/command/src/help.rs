@@ -11,11 +11,14 @@ pub fn general() -> String {
 }
 
 const BEFORE: &str = "\
-hdrfs reads HDRFS volumes, the yearly archives of water-level networks.
+hdrfs reads HDRFS volumes, the yearly archives of water-level networks. From an
+archive to a file: check it, find the file's number among the inodes, extract.
 
 ";
 
 const AFTER: &str = "
+FILE is a volume, or a folder, which stands for the *.vol in it.
+
   --json       one JSON object a line, for machines; numbers go up to 2^64 - 1
   --help       this text; after a command, more about it (or: hdrfs help check)
   --version    the version
@@ -24,46 +27,43 @@ const AFTER: &str = "
 A volume that is not sound is refused, with a number, the offset of the fault
 and plain words:
 
-  a.vol: refused 5 at 80: checksum wrong
+  a.vol: refused 5 at 80: checksum wrong; 0 blocks accepted before
 
 Exit status: 0 accepted; 1 refused; 2 wrong use, or a file that cannot be read
 or written.
 ";
 
 pub const CHECK_SUMMARY: &str = "\
-\x20 hdrfs check FILE.. [-j N]                whether volumes are sound
-";
-
-pub const LIST_SUMMARY: &str = "\
-\x20 hdrfs list FILE                          the blocks of a volume
-";
-
-pub const RUNS_SUMMARY: &str = "\
-\x20 hdrfs runs FILE.. --inode N [--from A] [--to B]
-                                           where the bytes of a file are stored
-";
-
-pub const EXTRACT_SUMMARY: &str = "\
-\x20 hdrfs extract FILE.. --inode N -o OUT    the content of a file
+\x20 hdrfs check FILE..                       whether volumes are sound and one set
 ";
 
 pub const CHECK: &str = "\
 hdrfs check FILE.. [-j N] [--json]
 
 Checks whole volumes. Prints a line for each, in the order given, and a summary.
+Of several it says whether those that are sound are one set: they are of one
+file system, and no sequence number is there twice. Numbers that are missing
+are told, and are no fault.
 
-  -j N, --jobs N    check up to N volumes at a time (as many as there
-                    are cores, if not given)
-  --json            an object a file, and no summary: file, sequence, blocks,
-                    end, and time if there is a last one; or file, refused,
-                    offset and words; or file and error
+  -j N, --jobs N    check up to N volumes at a time (as many as there are
+                    cores, if not given)
+  --json            an object a file, and no summary: file, sequence, id (of
+                    the file system), previous (hash), blocks, end, and time if
+                    there is a last one; or file, refused, offset, words and
+                    blocks (accepted before); or file and error. Of several at
+                    the end: set (true or false), and id, volumes (how many)
+                    and missing (first and last of each gap), or error
 
-Exit status: 0 all are sound; 1 some are refused; 2 wrong use, or some cannot
-be read.
+Exit status: 0 all are sound and one set; 1 some are refused, or they are no
+set; 2 wrong use, or some cannot be read.
+";
+
+pub const LIST_SUMMARY: &str = "\
+\x20 hdrfs list FILE [--long]                 the blocks of a volume
 ";
 
 pub const LIST: &str = "\
-hdrfs list FILE [--json]
+hdrfs list FILE [--long] [--json]
 
 Lists the blocks of a volume: where each begins, the number of its kind and its
 length. The last line says where the volume ends and how many blocks it has, or
@@ -72,15 +72,50 @@ what is refused and where.
   1 inode    3 unlink    5 removed xattr    7 rename
   2 link     4 xattr     6 data             8 link table
 
-  --json    an object a line: offset, id and length; at the end, end and
-            blocks, or file, refused, offset and words
+  -l, --long    first the volume's file system ID and the hash of the volume
+                before it; then of each block also its number, its kind in
+                words, its time and what it is about
+  --json        an object a line: file, sequence, id and previous; for each
+                block offset, id and length, and with --long all its numbers
+                and names; at the end, end and blocks, or file, refused,
+                offset, words and blocks
 
 Exit status: 0 the volume is sound; 1 it is refused; 2 wrong use, or it cannot
 be read.
 ";
 
+pub const INODES_SUMMARY: &str = "\
+\x20 hdrfs inodes FILE..                      the files, folders and links in them
+";
+
+pub const INODES: &str = "\
+hdrfs inodes FILE.. [-j N] [--json]
+
+Prints the current state of every inode: its number, type and size, the volume
+and the offset of its block, the time of the block, when its content and when it
+was last changed, when it was made and last read, and whether the last that is
+said about a link to it is that it was taken away. Such a file can still be
+extracted.
+
+The current state is the last one: in the volume with the highest sequence
+number that has the inode, the last block. So all volumes should be given, in
+any order.
+
+  -j N, --jobs N    check up to N volumes at a time (as many as there are
+                    cores, if not given)
+  --json            an object an inode: inode, type, size, volume, offset, mode,
+                    uid, gid, time, atime, mtime, ctime, btime, and unlinked
+                    (true or false)
+
+Exit status: 0 done; 1 refused; 2 wrong use, or a file that cannot be read.
+";
+
+pub const RUNS_SUMMARY: &str = "\
+\x20 hdrfs runs FILE.. --inode N              where the bytes of a file are stored
+";
+
 pub const RUNS: &str = "\
-hdrfs runs FILE.. --inode N [--from A] [--to B] [--json]
+hdrfs runs FILE.. --inode N [--from A] [--to B] [-j N] [--json]
 
 Prints where the bytes of a regular file are stored, a line a run: position,
 length, kind (0 hole, 1 stored), sequence number of the volume, offset in it.
@@ -90,31 +125,45 @@ All volumes that the file is stored in have to be given, in any order. The
 inode is the last one with its number: in the volume with the highest sequence
 number that has it, the last block.
 
-  --inode N    the inode number
-  --from A     the first position (0 if not given)
-  --to B       the position after the last (the end of the file if not given)
-  --json       an object a line: start, length, kind (hole or stored), and
-               volume and offset if it is stored
+  --inode N         the inode number (hdrfs inodes shows them)
+  --from A          the first position (0 if not given)
+  --to B            the position after the last (the end of the file if not
+                    given)
+  -j N, --jobs N    check up to N volumes at a time (as many as there are
+                    cores, if not given)
+  --json            an object a line: start, length, kind (hole or stored), and
+                    volume and offset if it is stored
 
 Exit status: 0 done; 1 refused; 2 wrong use, or a file that cannot be read.
 ";
 
+pub const EXTRACT_SUMMARY: &str = "\
+\x20 hdrfs extract FILE.. --inode N -o OUT    the content of a file
+";
+
 pub const EXTRACT: &str = "\
-hdrfs extract FILE.. --inode N -o OUT [--json]
+hdrfs extract FILE.. --inode N -o OUT [-j N] [--json]
 
 Writes the content of a regular file to OUT. Holes stay holes. OUT appears, or
-is replaced, only once all is written; where anything is refused or fails, it
-stays as it was.
+is replaced, only once all is written; where anything is refused, fails or is
+interrupted, it stays as it was. A link is followed. OUT can be read by no more
+people than the inode's mode says, nor than before.
 
-All volumes that the file is stored in have to be given, in any order. They are
-read twice, so that they cannot come through pipes. The inode is the last one
-with its number: in the volume with the highest sequence number that has it, the
-last block.
+All volumes that the file is stored in have to be given, in any order. Those
+that come through pipes are kept in memory; others are read again, and it is
+noticed if they changed meanwhile. The inode is the last one with its number: in
+the volume with the highest sequence number that has it, the last block.
 
-  --inode N               the inode number
-  -o OUT, --output OUT    the file to write; not one of the volumes
+  --inode N               the inode number (hdrfs inodes shows them)
+  -o OUT, --output OUT    the file to write; not one of the volumes. With - the
+                          content goes to standard output: then holes are
+                          zeros, and what was written before a failure is a
+                          part of the file, which the exit status tells
+  -j N, --jobs N          check up to N volumes at a time (as many as there are
+                          cores, if not given)
   --json                  an object: file, inode, volume and offset of the
-                          inode's block, size, stored (how many bytes are)
+                          inode's block, size, stored (how many bytes are);
+                          with -o - on standard error
 
 Exit status: 0 written; 1 refused; 2 wrong use, or a file that cannot be read
 or written.

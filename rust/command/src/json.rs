@@ -27,6 +27,22 @@ impl Object {
         self
     }
 
+    pub fn truth(self, key: &str, value: bool) -> Object {
+        self.raw(key, if value { "true" } else { "false" })
+    }
+
+    /// A value that is in the form for machines already.
+    pub fn raw(mut self, key: &str, value: &str) -> Object {
+        self.key(key);
+        self.members.push_str(value);
+        self
+    }
+
+    /// The object alone.
+    pub fn text_of(&self) -> String {
+        format!("{{{}}}", self.members)
+    }
+
     /// The object and a line end.
     pub fn line(&self) -> String {
         format!("{{{}}}\n", self.members)
@@ -39,6 +55,12 @@ impl Object {
         quote(key, &mut self.members);
         self.members.push(':');
     }
+}
+
+/// A list of values that are in the form for machines already.
+pub fn list(values: impl IntoIterator<Item = String>) -> String {
+    let values: Vec<String> = values.into_iter().collect();
+    format!("[{}]", values.join(","))
 }
 
 /// Quotes a text. Beyond what has to be escaped, so is all that would steer a terminal.

@@ -4,19 +4,21 @@
 //! the library decides.
 #![deny(unsafe_code)]
 
-mod archive;
 mod check;
 mod commands;
 mod extract;
 mod failure;
 mod help;
+mod inodes;
 mod input;
 mod json;
+mod lack;
 mod list;
+mod long;
 mod output;
 mod progress;
 mod runs;
-mod store;
+mod set;
 #[allow(unsafe_code)]
 mod system;
 mod target;

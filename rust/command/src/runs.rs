@@ -1,14 +1,16 @@
 //! `hdrfs runs`: where the bytes of a file are stored.
 
+use std::num::NonZeroUsize;
 use std::path::PathBuf;
 
-use hdrfs::{Logical, Run};
+use hdrfs::{ArchiveError, Logical, Run};
 
-use crate::archive;
 use crate::commands::Request;
 use crate::failure::{Failure, Status};
+use crate::input;
 use crate::json::Object;
 use crate::output::Lines;
+use crate::set;
 use crate::words::Words;
 
 #[derive(Debug)]
@@ -18,6 +20,7 @@ pub struct Runs {
     /// The first position, and the one after the last.
     pub from: u64,
     pub to: u64,
+    pub jobs: NonZeroUsize,
 }
 
 impl Request for Runs {
@@ -26,24 +29,25 @@ impl Request for Runs {
             inode: words.inode()?,
             from: words.number("--from")?.unwrap_or(0),
             to: words.number("--to")?.unwrap_or(u64::MAX),
+            jobs: words.jobs()?,
             files: words.files()?,
         })
     }
 
     fn run(&self, json: bool) -> Result<Status, Failure> {
-        let (archive, inode) = archive::open(&self.files, self.inode)?;
-        let file = inode.file(&archive.lengths);
-        let mut runs = file.runs(Logical(self.from), Logical(self.to)).peekable();
+        let archive = set::open(&input::volumes(&self.files)?, self.jobs)?;
         // A refusal comes before everything else, and so before the heading.
-        if let Some(Err(refusal)) = runs.peek() {
-            return Err(inode.refused(*refusal));
-        }
+        let file = set::file(&archive, self.inode)?;
         let mut lines = Lines::new();
         if !json {
             lines.put("start length kind volume offset\n")?;
         }
-        for run in runs {
-            let run = run.map_err(|refusal| inode.refused(refusal))?;
+        for run in file.runs(Logical(self.from), Logical(self.to)) {
+            let run = run.map_err(|refusal| ArchiveError::Refused {
+                path: file.path().to_path_buf(),
+                refusal,
+                blocks: None,
+            })?;
             lines.put(&line(&run, json))?;
         }
         lines.flush()?;

@@ -25,12 +25,40 @@ pub fn shown(path: &Path) -> String {
     shown
 }
 
+/// A text out of a volume, between quotes, so that its beginning and end can be told.
+pub fn quoted(text: &str) -> String {
+    let mut quoted = String::from("\"");
+    for letter in text.chars() {
+        if is_hidden(letter) || matches!(letter, '"' | '\\') {
+            quoted.extend(letter.escape_default());
+        } else {
+            quoted.push(letter);
+        }
+    }
+    quoted.push('"');
+    quoted
+}
+
 /// A number of things: `1 file`, `2 files`.
 pub fn count(number: u64, thing: &str) -> String {
     match number {
         1 => format!("1 {thing}"),
         _ => format!("{number} {thing}s"),
     }
+}
+
+/// Several things in a row: `1, 2 and 3`.
+pub fn listed(things: &[String]) -> String {
+    match things {
+        [] => String::new(),
+        [one] => one.clone(),
+        [before @ .., last] => format!("{} and {last}", before.join(", ")),
+    }
+}
+
+/// Bytes as two digits each.
+pub fn hex(bytes: &[u8]) -> String {
+    bytes.iter().map(|byte| format!("{byte:02x}")).collect()
 }
 
 #[cfg(test)]
@@ -42,6 +70,13 @@ mod tests {
         assert_eq!(shown(Path::new("a\nb\u{1b}[0m")), "a\\nb\\u{1b}[0m");
         assert_eq!(shown(Path::new("a\u{202e}b\u{85}")), "a\\u{202e}b\\u{85}");
         assert_eq!(shown(Path::new("pégel 1.vol")), "pégel 1.vol");
+    }
+
+    #[test]
+    fn a_text_ends_where_its_quotes_do() {
+        assert_eq!(quoted("pégel 1"), "\"pégel 1\"");
+        assert_eq!(quoted("a\" in 2\n\\"), "\"a\\\" in 2\\n\\\\\"");
+        assert_eq!(quoted(""), "\"\"");
     }
 
     #[test]

@@ -6,7 +6,7 @@ use std::fs::File;
 
 use support::json::object;
 use support::volumes::{data, header, small_volume, table};
-use support::{Answer, Folder};
+use support::{Answer, Folder, NO_HASH, NO_ID};
 
 /// A sound volume, a damaged one, one with nothing but a table, and one that is cut.
 fn folder(name: &str) -> Folder {
@@ -31,7 +31,7 @@ fn a_sound_volume() {
 #[test]
 fn a_refused_volume() {
     let answer = folder("check_refused").run("check damaged");
-    let lines = "damaged: refused 5 at 80: checksum wrong\n\
+    let lines = "damaged: refused 5 at 80: checksum wrong; 0 blocks accepted before\n\
                  1 file: 0 accepted, 1 refused, 0 not read\n";
     answer.is(1, lines, "");
 }
@@ -46,9 +46,9 @@ fn a_file_that_is_not_there() {
     );
     assert_eq!(answer.err.lines().count(), 1);
     assert!(answer.out.contains("sound: accepted"), "{answer:?}");
-    assert!(answer
-        .out
-        .ends_with("3 files: 1 accepted, 1 refused, 1 not read\n"));
+    let set = format!("of those accepted: one set: file system {NO_ID}, volumes 0, none missing\n");
+    let end = format!("3 files: 1 accepted, 1 refused, 1 not read\n{set}");
+    assert!(answer.out.ends_with(&end), "{answer:?}");
 }
 
 #[test]
@@ -68,16 +68,16 @@ fn lines_stand_in_the_order_given() {
         // Volumes of very different length, so that threads end out of order.
         let len = if number % 7 == 0 { 2_000_000 } else { number };
         let name = format!("v{number}");
-        folder.put(
-            &name,
-            &[header(0), data(number as u64, &vec![0; len])].concat(),
+        let start = [header(number as u64 + 1), table(&[])].concat();
+        folder.put(&name, &[start, data(number as u64, &vec![0; len])].concat());
+        let (sequence, end) = (number + 1, 93 + 21 + len);
+        expected += &format!(
+            "{name}: accepted, volume {sequence}, blocks 2, end {end}, last time {number}\n"
         );
-        let end = 80 + 21 + len;
-        expected +=
-            &format!("{name}: accepted, volume 0, blocks 1, end {end}, last time {number}\n");
         names += &format!(" {name}");
     }
     expected += "40 files: 40 accepted, 0 refused, 0 not read\n";
+    expected += &format!("one set: file system {NO_ID}, volumes 1 to 40, missing 0\n");
     for jobs in ["", " -j 1", " -j 3", " -j 1000"] {
         folder
             .run(&format!("check{names}{jobs}"))
@@ -93,22 +93,20 @@ fn json_answer(jobs: &str) -> Answer {
 #[test]
 fn objects_for_machines() {
     for answer in [json_answer("1"), json_answer("4")] {
-        let sound = [
-            ("sequence", 0.into()),
-            ("blocks", 1.into()),
-            ("end", 104.into()),
-        ];
-        let [sequence, blocks, end] = sound;
         let sound = object([
             ("file", "sound".into()),
-            sequence,
-            blocks,
-            end,
+            ("sequence", 0.into()),
+            ("id", NO_ID.into()),
+            ("previous", NO_HASH.into()),
+            ("blocks", 1.into()),
+            ("end", 104.into()),
             ("time", 7.into()),
         ]);
         let table = object([
             ("file", "table".into()),
             ("sequence", 3.into()),
+            ("id", NO_ID.into()),
+            ("previous", NO_HASH.into()),
             ("blocks", 1.into()),
             ("end", 93.into()),
         ]);
@@ -118,13 +116,37 @@ fn objects_for_machines() {
                 ("refused", number.into()),
                 ("offset", offset.into()),
                 ("words", words.into()),
+                ("blocks", 0.into()),
             ])
         };
         let damaged = refused("damaged", 5, 80, "checksum wrong");
         let cut = refused("cut", 2, 0, "bytes end too early");
-        assert_eq!(answer.objects(), [sound, table, damaged, cut]);
+        let set = object([
+            ("set", true.into()),
+            ("id", NO_ID.into()),
+            ("volumes", 2.into()),
+            ("missing", vec![vec![1_u64, 2]].into()),
+        ]);
+        assert_eq!(answer.objects(), [sound, table, damaged, cut, set]);
         assert_eq!((answer.status, answer.err.as_str()), (1, ""));
     }
+}
+
+#[test]
+fn the_blocks_before_a_fault_are_counted() {
+    let folder = Folder::new("check_blocks");
+    let blocks = [
+        table(&[]),
+        data(1, b"1,5"),
+        data(2, b"2,5"),
+        data(2, b"3,5"),
+    ];
+    folder.put("v", &[header(4), blocks.concat()].concat());
+    let lines = "v: refused 14 at 141: time not later than the one before; \
+                 3 blocks accepted before\n1 file: 0 accepted, 1 refused, 0 not read\n";
+    folder.run("check v").is(1, lines, "");
+    let answer = folder.run("check v --json");
+    assert_eq!(answer.objects()[0]["blocks"], 3.into());
 }
 
 #[test]
@@ -143,7 +165,7 @@ fn of_a_long_file_only_a_part_is_read() {
     // It has a hole of a tebibyte, and would take minutes to read.
     let long = File::create(folder.0.join("long")).unwrap();
     long.set_len(1 << 40).unwrap();
-    let lines = "long: refused 1 at 0: volume too long\n\
+    let lines = "long: refused 1 at 0: volume too long; 0 blocks accepted before\n\
                  1 file: 0 accepted, 1 refused, 0 not read\n";
     folder.run("check long").is(1, lines, "");
     let one_more = File::create(folder.0.join("long")).unwrap();

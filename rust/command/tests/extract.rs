@@ -161,7 +161,8 @@ fn a_volume_with_a_number_too_high_for_the_lengths() {
     assert_eq!(folder.run("extract high v0 --inode 7 -o out").status, 0);
     assert_eq!(folder.read("out"), b"1,5");
     folder.put("high", &high(Extent::once(u64::MAX, 97, 3, 0)));
-    let refused = "high: refused 16 at 93: volume or range is not there\n";
+    let refused = "high: refused 16 at 93: volume or range is not there: its extent 0 is in \
+                   volume 18446744073709551615, a number too high for stored bytes\n";
     folder
         .run("extract high v0 --inode 7 -o out")
         .is(1, "", refused);

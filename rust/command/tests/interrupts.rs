@@ -2,7 +2,7 @@
 
 mod support;
 
-use std::fs::{self, File};
+use std::fs;
 use std::io::Write;
 use std::os::unix::process::ExitStatusExt;
 use std::path::Path;
@@ -96,16 +96,11 @@ fn a_sudden_end_leaves_nothing() {
 fn an_interrupt_while_a_pipe_is_waited_for() {
     let folder = Folder::new("interrupts_pipe");
     folder.put("out", b"as it was");
-    let made = Command::new("mkfifo").arg(folder.0.join("v")).status();
-    assert!(made.unwrap().success());
+    folder.make_pipe("v");
     let mut command = folder.command();
     command.args(["extract", "v", "--inode", "7", "-o", "out"]);
     let mut child = command.stderr(Stdio::piped()).spawn().unwrap();
-    // To open it for writing waits for the command to open it for reading.
-    let mut pipe = File::options()
-        .write(true)
-        .open(folder.0.join("v"))
-        .unwrap();
+    let mut pipe = folder.open_pipe("v", &mut child);
     pipe.write_all(&small_volume()[..90]).unwrap();
     send(&child, "TERM");
     assert_eq!(child.wait().unwrap().signal(), Some(15));

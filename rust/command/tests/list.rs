@@ -4,7 +4,7 @@ mod support;
 
 use support::json::object;
 use support::volumes::{data, header, inode, small_volume, table, FOLDER};
-use support::Folder;
+use support::{Folder, NO_HASH, NO_ID};
 
 #[test]
 fn the_listing_of_the_rules() {
@@ -34,7 +34,8 @@ fn accepted_blocks_come_before_the_refusal() {
     ];
     folder.put("v", &[header(4), blocks.concat()].concat());
     let lines = "offset id length\n80 8 34\n114 1 75\nrefused 14 at 189\n";
-    let words = "v: refused 14 at 189: time not later than the one before\n";
+    let words =
+        "v: refused 14 at 189: time not later than the one before; 2 blocks accepted before\n";
     folder.run("list v").is(1, lines, words);
 }
 
@@ -43,9 +44,11 @@ fn a_refused_header() {
     let folder = Folder::new("list_no_header");
     folder.put("v", b"");
     let lines = "offset id length\nrefused 2 at 0\n";
-    folder
-        .run("list v")
-        .is(1, lines, "v: refused 2 at 0: bytes end too early\n");
+    folder.run("list v").is(
+        1,
+        lines,
+        "v: refused 2 at 0: bytes end too early; 0 blocks accepted before\n",
+    );
 }
 
 #[test]
@@ -53,13 +56,19 @@ fn objects_for_machines() {
     let folder = Folder::new("list_json");
     folder.put("v", &small_volume());
     let answer = folder.run("list v --json");
+    let first = object([
+        ("file", "v".into()),
+        ("sequence", 0.into()),
+        ("id", NO_ID.into()),
+        ("previous", NO_HASH.into()),
+    ]);
     let block = object([
         ("offset", 80.into()),
         ("id", 6.into()),
         ("length", 24.into()),
     ]);
     let end = object([("end", 104.into()), ("blocks", 1.into())]);
-    assert_eq!(answer.objects(), [block.clone(), end]);
+    assert_eq!(answer.objects(), [first.clone(), block.clone(), end]);
     assert_eq!((answer.status, answer.err.as_str()), (0, ""));
 
     folder.put("v", &[small_volume(), vec![9]].concat());
@@ -69,8 +78,9 @@ fn objects_for_machines() {
         ("refused", 7.into()),
         ("offset", 104.into()),
         ("words", "unknown block ID".into()),
+        ("blocks", 1.into()),
     ]);
-    assert_eq!(answer.objects(), [block, refused]);
+    assert_eq!(answer.objects(), [first, block, refused]);
     assert_eq!((answer.status, answer.err.as_str()), (1, ""));
 }
 

@@ -3,10 +3,11 @@
 mod support;
 
 use std::fs::File;
-use std::io::{self, BufRead, BufReader};
+use std::io::{self, BufRead, BufReader, Read};
 use std::os::unix::process::ExitStatusExt;
 use std::process::Stdio;
 
+use support::json::{self, object};
 use support::volumes::{file, header, repeated_extent, small_volume, table, Extent, REPEATED};
 use support::Folder;
 
@@ -111,4 +112,63 @@ fn words_that_nobody_takes_change_no_status() {
         let output = command.args(line.split(' ')).stderr(full).output().unwrap();
         assert_eq!(output.status.code(), Some(status), "{line}");
     }
+}
+
+#[test]
+fn the_content_goes_to_standard_output() {
+    let folder = folder("streams_content");
+    let content = "\0\0\0\0,51,51,\0\0\0";
+    folder
+        .run("extract v0 v1 --inode 7 -o -")
+        .is(0, content, "");
+    let answer = folder.run("extract v0 v1 --inode 7 --output=- --json");
+    assert_eq!((answer.status, answer.out.as_str()), (0, content));
+    let report = object([
+        ("file", "-".into()),
+        ("inode", 7.into()),
+        ("volume", 1.into()),
+        ("offset", 93.into()),
+        ("size", 14.into()),
+        ("stored", 7.into()),
+    ]);
+    assert_eq!(json::parse(answer.err.trim_end()), report);
+    let answer = folder.run("extract v1 --inode 7 -o - --json");
+    assert_eq!((answer.status, answer.out.as_str()), (1, ""));
+    assert_eq!(json::parse(answer.err.trim_end())["refused"], 16.into());
+    assert_eq!(folder.names(), ["v0", "v1"]);
+}
+
+/// A hole that would take years, to a reader that goes away.
+#[test]
+fn content_that_nobody_takes_ends_the_command() {
+    let folder = Folder::new("streams_content_closed");
+    folder.put("v", &[header(0), file(1, 7, u64::MAX, &[])].concat());
+    let mut command = folder.command();
+    command.args(["extract", "v", "--inode", "7", "-o", "-"]);
+    let mut child = command
+        .stdout(Stdio::piped())
+        .stderr(Stdio::piped())
+        .spawn()
+        .unwrap();
+    let mut begin = [1; 100_000];
+    child.stdout.take().unwrap().read_exact(&mut begin).unwrap();
+    assert_eq!(begin, [0; 100_000]);
+    let output = child.wait_with_output().unwrap();
+    assert_eq!(output.status.signal(), Some(SIGPIPE));
+    assert_eq!(String::from_utf8_lossy(&output.stderr), "");
+}
+
+#[test]
+fn content_that_cannot_be_written_is_no_success() {
+    let folder = folder("streams_content_full");
+    let full = File::options().write(true).open("/dev/full").unwrap();
+    let mut command = folder.command();
+    command.args(["extract", "v0", "v1", "--inode", "7", "-o", "-"]);
+    let output = command.stdout(full).output().unwrap();
+    assert_eq!(output.status.code(), Some(2));
+    let said = String::from_utf8_lossy(&output.stderr);
+    assert!(
+        said.starts_with("hdrfs: cannot write to standard output"),
+        "{said}"
+    );
 }

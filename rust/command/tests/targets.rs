@@ -139,8 +139,7 @@ fn only_regular_files_are_replaced() {
     refused("sub/.", "names a folder, and not a file to write");
     refused("sub/..", "names a folder, and not a file to write");
     refused("new/", "names a folder, and not a file to write");
-    let made = Command::new("mkfifo").arg(folder.0.join("pipe")).status();
-    assert!(made.unwrap().success());
+    folder.make_pipe("pipe");
     refused("pipe", "is a pipe, which is not replaced by a file");
     let fifo = fs::symlink_metadata(folder.0.join("pipe")).unwrap();
     assert!(fifo.file_type().is_fifo());

@@ -2,20 +2,18 @@
 
 mod support;
 
-use std::fs::File;
-use std::io::Write;
 use std::process::{Child, Command, Stdio};
 
+use support::signals::send;
 use support::terminal::Terminal;
-use support::volumes::{file, header, small_volume, table, Extent};
+use support::volumes::{file, header, small_volume, table, Extent, REPEATED};
 use support::Folder;
 
 /// A folder with a volume, and a pipe through which another will come.
 fn folder(name: &str) -> Folder {
     let folder = Folder::new(name);
     folder.put("v0", &small_volume());
-    let made = Command::new("mkfifo").arg(folder.0.join("slow")).status();
-    assert!(made.unwrap().success());
+    folder.make_pipe("slow");
     folder
 }
 
@@ -40,22 +38,13 @@ fn start(folder: &Folder, line: &str, kind: &str, both: bool) -> (Child, Termina
     (command.stderr(far).spawn().unwrap(), terminal)
 }
 
-fn feed(folder: &Folder) {
-    // To open it waits for the command to read from it.
-    let mut pipe = File::options()
-        .write(true)
-        .open(folder.0.join("slow"))
-        .unwrap();
-    pipe.write_all(&slow()).unwrap();
-}
-
 #[test]
 fn a_check_that_takes_long_shows_how_far_it_is() {
     let folder = folder("terminal_check");
     let line = "check v0 slow -j 1";
     let (mut child, mut terminal) = start(&folder, line, "xterm", true);
     terminal.wait_for("\r1 of 2 volumes checked\x1b[K");
-    feed(&folder);
+    folder.feed("slow", &mut child, &slow());
     assert!(child.wait().unwrap().success());
     let seen = terminal.read_to_end();
     // The line is taken away before anything else is printed, and at the end.
@@ -66,7 +55,7 @@ fn a_check_that_takes_long_shows_how_far_it_is() {
     let (_, last) = seen.rsplit_once("\x1b[K").unwrap();
     assert!(!last.contains("volumes checked"), "{seen:?}");
     assert!(
-        seen.ends_with("2 files: 2 accepted, 0 refused, 0 not read\r\n"),
+        seen.ends_with("volumes 0 to 1, none missing\r\n"),
         "{seen:?}"
     );
 }
@@ -78,11 +67,11 @@ fn a_dumb_terminal_gets_no_codes() {
         let line = "check v0 slow -j 1";
         let (mut child, mut terminal) = start(&folder, line, kind, true);
         terminal.wait_for("v0: accepted");
-        feed(&folder);
+        folder.feed("slow", &mut child, &slow());
         assert!(child.wait().unwrap().success());
         let seen = terminal.read_to_end();
         assert!(!seen.contains('\x1b'), "{seen:?}");
-        assert_eq!(seen.lines().count(), 3, "{seen:?}");
+        assert_eq!(seen.lines().count(), 4, "{seen:?}");
     }
 }
 
@@ -94,4 +83,38 @@ fn a_short_check_shows_nothing_but_its_answer() {
     let seen = terminal.read_to_end();
     // A machine that is busy may take longer than a second all the same.
     assert!(seen.is_empty() || seen.ends_with("\r\x1b[K"), "{seen:?}");
+}
+
+#[test]
+fn an_extract_that_takes_long_shows_how_far_it_is() {
+    let folder = folder("terminal_extract");
+    let line = "extract v0 slow --inode 7 -o out -j 1";
+    let (mut child, mut terminal) = start(&folder, line, "xterm", true);
+    terminal.wait_for("\r1 of 2 volumes read\x1b[K");
+    folder.feed("slow", &mut child, &slow());
+    assert!(child.wait().unwrap().success());
+    let seen = terminal.read_to_end();
+    let report = "\r\x1b[Kout: inode 7 at 93 of volume 1, 3 bytes, 3 of them stored\r\n";
+    assert!(seen.ends_with(report), "{seen:?}");
+    assert_eq!(folder.read("out"), b"1,5");
+}
+
+/// A file that nobody will see the end of shows how much of it is written.
+#[test]
+fn a_long_file_shows_how_much_is_written() {
+    let folder = folder("terminal_long");
+    let copies = Extent {
+        multiplicity: REPEATED,
+        count: 1 << 40,
+        ..Extent::once(0, 97, 1, 0)
+    };
+    folder.put(
+        "v",
+        &[small_volume(), file(8, 7, 1 << 40, &[copies])].concat(),
+    );
+    let line = "extract v --inode 7 -o -";
+    let (mut child, mut terminal) = start(&folder, line, "xterm", false);
+    terminal.wait_for(" of 1099511627776 bytes written\x1b[K");
+    send(&child, "TERM");
+    child.wait().unwrap();
 }

@@ -35,6 +35,10 @@ fn check(names: &[&str], jobs: usize) -> Check {
     }
 }
 
+fn cores() -> NonZeroUsize {
+    thread::available_parallelism().unwrap()
+}
+
 #[test]
 fn checks() {
     for line in [
@@ -64,14 +68,20 @@ fn checks() {
 
 #[test]
 fn as_many_jobs_as_cores() {
-    let cores = thread::available_parallelism().unwrap().get();
-    assert_eq!(ask("check a"), is(check(&["a"], cores), false));
+    assert_eq!(ask("check a"), is(check(&["a"], cores().get()), false));
+    let inodes = |jobs| Inodes {
+        files: files(&["a"]),
+        jobs,
+    };
+    assert_eq!(ask("inodes a"), is(inodes(cores()), false));
+    assert_eq!(ask("inodes a -j1"), is(inodes(NonZeroUsize::MIN), false));
 }
 
 #[test]
 fn runs() {
     let request = |from, to| Runs {
         files: files(&["a"]),
+        jobs: cores(),
         inode: 7,
         from,
         to,
@@ -86,9 +96,16 @@ fn runs() {
 #[test]
 fn lists_and_extracts() {
     let file = PathBuf::from("a");
-    assert_eq!(ask("list a"), is(List { file }, false));
+    let list = |long| List {
+        file: file.clone(),
+        long,
+    };
+    assert_eq!(ask("list a"), is(list(false), false));
+    assert_eq!(ask("list a --long"), is(list(true), false));
+    assert_eq!(ask("list -l a --json"), is(list(true), true));
     let request = || Extract {
         files: files(&["a", "b"]),
+        jobs: cores(),
         inode: 0,
         out: PathBuf::from("c"),
     };
@@ -153,6 +170,8 @@ fn wrong_use_is_said() {
         ("check a --inode 7", "check has no option --inode"),
         ("list a b", "list takes one volume"),
         ("list a -o b", "list has no option --output"),
+        ("check a --long", "check has no option --long"),
+        ("inodes a --inode 7", "inodes has no option --inode"),
         ("runs a", "--inode is missing"),
         ("runs a --inode", "--inode needs a value"),
         ("runs a --inode=", "--inode  is no number"),

@@ -2,6 +2,7 @@
 #![allow(dead_code)] // Each test file uses a part of this one.
 
 pub mod json;
+pub mod pipes;
 pub mod signals;
 pub mod terminal;
 
@@ -57,6 +58,18 @@ impl Folder {
         Answer::new(self.command().args(words).output().unwrap())
     }
 }
+
+/// A volume of another file system: all the bytes of its ID are this one.
+pub fn of_file_system(mut volume: Vec<u8>, id: u8) -> Vec<u8> {
+    volume[18..34].fill(id);
+    let header = volumes::sealed(volume[..76].to_vec());
+    volume[..80].copy_from_slice(&header);
+    volume
+}
+
+/// The ID and the hash of the volumes of the tests, where nothing else is said.
+pub const NO_ID: &str = "00000000000000000000000000000000";
+pub const NO_HASH: &str = "0000000000000000000000000000000000000000000000000000000000000000";
 
 /// What a run printed, and its exit status.
 #[derive(Debug, PartialEq, Eq)]

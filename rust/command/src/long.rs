@@ -1,0 +1,113 @@
+//! The long form of a listing: what each block is about.
+
+use hdrfs::{Block, Content, FileType, Inode, Link};
+
+use crate::json::Object;
+use crate::text::{count, quoted};
+
+pub const HEADING: &str =
+    " block    offset  kind             length                  time  about\n";
+
+/// A block in a line. What it is about stands last, since names may have blanks in them.
+pub fn line(number: u64, block: &Block) -> String {
+    let time = block.time.map_or("-".to_string(), |time| time.to_string());
+    let (offset, len) = (block.offset, block.len());
+    let (kind, about) = (kind(&block.content), about(&block.content));
+    format!("{number:>6}  {offset:>8}  {kind:<13}  {len:>8}  {time:>20}  {about}\n")
+}
+
+fn kind(content: &Content) -> &'static str {
+    match content {
+        Content::Inode(_) => "inode",
+        Content::Link(_) => "link",
+        Content::Unlink(_) => "unlink",
+        Content::Xattr { .. } => "xattr",
+        Content::RemovedXattr { .. } => "removed xattr",
+        Content::Data { .. } => "data",
+        Content::Rename { .. } => "rename",
+        Content::LinkTable(_) => "link table",
+    }
+}
+
+fn about(content: &Content) -> String {
+    let link = |word: &str, link: &Link| {
+        let (child, parent, name) = (link.child, link.parent, quoted(link.name));
+        format!("{word} {child} in {parent} {name}")
+    };
+    match content {
+        Content::Inode(inode) => about_inode(inode),
+        Content::Link(new) => link("link", new),
+        Content::Unlink(old) => link("unlink", old),
+        Content::Xattr { inode, name, value } => {
+            let len = count(value.len() as u64, "byte");
+            format!("inode {inode}, attribute {}, {len}", quoted(name))
+        }
+        Content::RemovedXattr { inode, name } => {
+            format!("inode {inode}, attribute {} taken away", quoted(name))
+        }
+        Content::Data { payload } => count(payload.len() as u64, "byte"),
+        Content::Rename { old, new } => format!("{} to {}", quoted(old), quoted(new)),
+        Content::LinkTable(table) => count(table.len() as u64, "link"),
+    }
+}
+
+fn about_inode(inode: &Inode) -> String {
+    let (number, kind) = (inode.number, inode.file_type());
+    let more = match kind {
+        FileType::Regular => format!(", {}", count(inode.size, "byte")),
+        FileType::SymbolicLink => format!(" to {}", quoted(inode.target().unwrap_or_default())),
+        _ => String::new(),
+    };
+    format!("inode {number}, {kind}{more}")
+}
+
+/// A block for machines.
+pub fn object(number: u64, block: &Block) -> Object {
+    let object = Object::new()
+        .number("block", number)
+        .number("offset", block.offset)
+        .number("id", block.id)
+        .text("kind", kind(&block.content))
+        .number("length", block.len());
+    let object = match block.time {
+        Some(time) => object.number("time", time),
+        None => object,
+    };
+    members(object, &block.content)
+}
+
+fn members(object: Object, content: &Content) -> Object {
+    match content {
+        Content::Inode(inode) => inode_members(object, inode),
+        Content::Link(link) | Content::Unlink(link) => object
+            .number("child", link.child)
+            .number("parent", link.parent)
+            .text("name", link.name),
+        Content::Xattr { inode, name, value } => object
+            .number("inode", *inode)
+            .text("name", name)
+            .number("size", value.len() as u64),
+        Content::RemovedXattr { inode, name } => object.number("inode", *inode).text("name", name),
+        Content::Data { payload } => object.number("size", payload.len() as u64),
+        Content::Rename { old, new } => object.text("old", old).text("new", new),
+        Content::LinkTable(table) => object.number("links", table.len() as u64),
+    }
+}
+
+fn inode_members(object: Object, inode: &Inode) -> Object {
+    let object = object
+        .number("inode", inode.number)
+        .text("type", &inode.file_type().to_string())
+        .number("size", inode.size)
+        .number("mode", inode.mode.into())
+        .number("uid", inode.uid.into())
+        .number("gid", inode.gid.into())
+        .number("atime", inode.atime)
+        .number("mtime", inode.mtime)
+        .number("ctime", inode.ctime)
+        .number("btime", inode.btime);
+    match inode.target() {
+        Some(target) => object.text("target", target),
+        None => object,
+    }
+}
