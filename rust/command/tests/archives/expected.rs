@@ -1,0 +1,178 @@
+//! What the command has to say, by the independent implementation.
+
+use compare::json::Json;
+use independent::{check, read_header, Inode, Lacking, Set, SetFault, Verdict, LENGTHS_LIMIT};
+
+use crate::given::place;
+
+/// Fields of an object with their values.
+pub type Fields = Vec<(&'static str, Json)>;
+
+/// Fails unless the object has these fields.
+pub fn has(object: &Json, fields: &Fields) -> Result<(), String> {
+    for (name, value) in fields {
+        if object.field(name) != value {
+            return Err(format!("{name} is not {value:?} in {object:?}"));
+        }
+    }
+    Ok(())
+}
+
+pub fn number(value: u64) -> Json {
+    Json::Number(value.to_string())
+}
+
+pub fn text(text: &str) -> Json {
+    Json::Text(text.into())
+}
+
+fn hexadecimal(bytes: &[u8]) -> Json {
+    Json::Text(bytes.iter().map(|byte| format!("{byte:02x}")).collect())
+}
+
+/// What the check says of a volume.
+pub fn verdict(volume: &[u8]) -> Fields {
+    match (check(volume), read_header(volume)) {
+        (
+            Verdict::Accepted {
+                sequence,
+                blocks,
+                end,
+            },
+            Ok(header),
+        ) => vec![
+            ("sequence", number(sequence)),
+            ("id", hexadecimal(header.id)),
+            ("previous", hexadecimal(header.previous)),
+            ("blocks", number(blocks)),
+            ("end", number(end.offset)),
+            ("time", end.last.map_or(Json::Null, number)),
+        ],
+        (
+            Verdict::Refused {
+                number: refused,
+                offset,
+                blocks,
+            },
+            _,
+        ) => vec![
+            ("refused", number(refused)),
+            ("offset", number(offset)),
+            ("blocks", number(blocks)),
+        ],
+        (Verdict::Accepted { .. }, Err(refused)) => unreachable!("header refused: {refused}"),
+    }
+}
+
+/// What the check says of a set.
+pub fn summary(set: &Set<'_>) -> Fields {
+    let ranges = set.missing();
+    let pair = |range: &std::ops::RangeInclusive<u64>| {
+        Json::List(vec![number(*range.start()), number(*range.end())])
+    };
+    vec![
+        ("set", Json::Bool(true)),
+        ("id", hexadecimal(&set.id())),
+        ("volumes", number(set.volumes().len() as u64)),
+        ("missing", Json::List(ranges.iter().map(pair).collect())),
+    ]
+}
+
+/// What is said of an inode. A link that stands in a table later is not compared.
+pub fn inode(inode: &Inode<'_>) -> Fields {
+    let stat = &inode.stat;
+    let mut fields = vec![
+        ("inode", number(stat.inode)),
+        ("size", number(stat.size)),
+        ("volume", number(inode.volume)),
+        ("offset", number(inode.offset)),
+        ("mode", number(stat.mode.into())),
+        ("uid", number(stat.uid.into())),
+        ("gid", number(stat.gid.into())),
+        ("time", number(stat.time)),
+        ("atime", number(stat.atime)),
+        ("mtime", number(stat.mtime)),
+        ("ctime", number(stat.ctime)),
+        ("btime", number(stat.btime)),
+    ];
+    match stat.mode >> 12 {
+        4 => fields.push(("type", text("folder"))),
+        8 => fields.push(("type", text("regular"))),
+        10 => fields.push(("type", text("symbolic link"))),
+        _ => {}
+    }
+    if !inode.last_link.is_some_and(|link| link.in_table) {
+        let taken_away = inode.last_link.is_some_and(|link| link.taken_away);
+        fields.push(("unlinked", Json::Bool(taken_away)));
+    }
+    fields
+}
+
+/// A run, as the command shows it.
+pub fn run(run: &[u64; 5]) -> Fields {
+    let kind = if run[2] == 1 { "stored" } else { "hole" };
+    let mut fields = vec![
+        ("start", number(run[0])),
+        ("length", number(run[1])),
+        ("kind", text(kind)),
+    ];
+    if run[2] == 1 {
+        fields.push(("volume", number(run[3])));
+        fields.push(("offset", number(run[4])));
+    }
+    fields
+}
+
+/// The fault of a set that an object tells.
+pub fn fault(object: &Json) -> Option<SetFault> {
+    let told = place(object, "file")?;
+    let value = |name| object.field(name).number();
+    if let Some(number) = value("refused") {
+        return Some(SetFault::Refused {
+            place: told,
+            number,
+            offset: value("offset")?,
+            blocks: value("blocks")?,
+        });
+    }
+    let other = place(object, "other")?;
+    let (first, second) = (told.min(other), told.max(other));
+    let words = object.field("error").text()?;
+    if words.contains("another file system") {
+        return Some(SetFault::Foreign { first, second });
+    }
+    let (_, after) = words.split_once("has sequence number ")?;
+    let sequence = after.split(',').next()?.parse().ok()?;
+    Some(SetFault::Double {
+        first,
+        second,
+        sequence,
+    })
+}
+
+/// Fails unless the object names the volumes and extents that are lacking. A volume for which no
+/// length can be lent may be called either.
+pub fn lacks(object: &Json, lacking: &Lacking) -> Result<(), String> {
+    let missing = object.field("missing").items().iter().map(Json::number);
+    let mut missing: Vec<Option<u64>> = missing.collect();
+    let mut short = Vec::new();
+    for extent in object.field("short").items() {
+        let value = |name| extent.field(name).number();
+        match value("volume") {
+            Some(volume) if volume >= LENGTHS_LIMIT as u64 => missing.push(Some(volume)),
+            volume => short.push((value("extent"), volume, value("length"))),
+        }
+    }
+    missing.sort_unstable();
+    missing.dedup();
+    let volumes = lacking.volumes.union(&lacking.unlisted);
+    let volumes: Vec<Option<u64>> = volumes.copied().map(Some).collect();
+    let beyond = lacking.beyond.iter();
+    let beyond: Vec<_> = beyond
+        .map(|b| (Some(b.index as u64), Some(b.volume), Some(b.length)))
+        .collect();
+    if (&missing, &short) == (&volumes, &beyond) {
+        return Ok(());
+    }
+    Err(format!("not {lacking:?} in {object:?}"))
+}
