@@ -4,5 +4,6 @@ pub mod facts;
 pub mod files;
 pub mod folder;
 pub mod opening;
+pub mod places;
 pub mod reading;
 mod refused;

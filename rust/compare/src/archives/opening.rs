@@ -30,6 +30,34 @@ pub fn bytes(archive: &Archive, cache: usize) -> Result<hdrfs::Archive, ArchiveE
     Ok(set)
 }
 
+/// The volumes that can stand in one set, taken one after the other; the others are left out, and an
+/// archive is as it was before it was given one of those. Answers nothing where none is left.
+///
+/// # Errors
+///
+/// What is taken and left out differs.
+pub fn what_fits(archive: &Archive) -> Result<Option<Both<'_>>, Difference> {
+    let mut proved = hdrfs::Archive::new();
+    let mut checker = Checker::new();
+    let mut fitting: Vec<&[u8]> = Vec::new();
+    for (place, volume) in archive.volumes.iter().enumerate() {
+        let checked = checker.bytes(name(place), volume.clone());
+        let taken = checked.and_then(|member| proved.insert(member)).is_ok();
+        fitting.push(volume);
+        let fits = set_faults(&fitting).is_empty();
+        same(taken, fits, || {
+            format!("whether the volume at {place} fits")
+        })?;
+        if !fits {
+            fitting.pop();
+        }
+    }
+    Ok(Set::new(&fitting).ok().map(|independent| Both {
+        proved,
+        independent,
+    }))
+}
+
 /// A set of files that so many threads check.
 ///
 /// # Errors
