@@ -1,5 +1,5 @@
 //! Times the proved library against the independent implementation: same process, same input, in
-//! turns, and the best of some rounds. `bench N` takes N rounds.
+//! turns, and the best of some rounds. `bench N` takes N rounds, `bench N NAME` only that part.
 //!
 //! The proved library looks up its checksum byte by byte. So there are two ratios: to the
 //! independent implementation with the same algorithm ("table"), and with the faster one that takes
@@ -7,6 +7,7 @@
 #![deny(unsafe_code)]
 
 mod appends;
+mod archives;
 mod checks;
 mod clock;
 mod files;
@@ -22,20 +23,41 @@ use std::process::ExitCode;
 /// Rounds where nothing else is said.
 const ROUNDS: usize = 9;
 
+/// The parts, by name.
+const PARTS: [(&str, fn(usize)); 5] = [
+    ("checks", checks::run),
+    ("files", files::run),
+    ("sums", sums::run),
+    ("appends", appends::run),
+    ("archives", archives::run),
+];
+
 fn main() -> ExitCode {
-    let rounds = match std::env::args().nth(1).map(|text| text.parse()) {
+    let mut words = std::env::args().skip(1);
+    let rounds = match words.next().map(|text| text.parse()) {
         None => ROUNDS,
         Some(Ok(rounds @ 1..)) => rounds,
-        Some(_) => {
-            eprintln!("usage: bench [rounds]");
-            return ExitCode::FAILURE;
-        }
+        Some(_) => return usage(),
     };
+    let asked: Vec<String> = words.collect();
+    if !asked
+        .iter()
+        .all(|word| PARTS.iter().any(|(name, _)| name == word))
+    {
+        return usage();
+    }
     println!("{}, best of {rounds} rounds in turns", clock::NAME);
     println!("ratios above 1: the proved library is slower\n");
-    checks::run(rounds);
-    files::run(rounds);
-    sums::run(rounds);
-    appends::run(rounds);
+    for (name, run) in PARTS {
+        if asked.is_empty() || asked.iter().any(|word| word == name) {
+            run(rounds);
+        }
+    }
     ExitCode::SUCCESS
+}
+
+fn usage() -> ExitCode {
+    let names = PARTS.map(|(name, _)| name).join("|");
+    eprintln!("usage: bench [rounds [{names}..]]");
+    ExitCode::FAILURE
 }

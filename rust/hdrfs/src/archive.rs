@@ -8,6 +8,7 @@
 mod cache;
 mod chunks;
 mod content;
+mod digest;
 mod each;
 mod error;
 mod file;
@@ -17,16 +18,14 @@ mod member;
 mod pages;
 mod reader;
 mod scan;
+mod store;
 
 use std::collections::BTreeMap;
 use std::ops::RangeInclusive;
 use std::path::PathBuf;
-use std::sync::Arc;
 
 use cache::Cache;
 use index::Index;
-use member::Stock;
-use pages::{PageError, PAGE_LEN};
 
 pub use chunks::{Chunk, Chunks};
 pub use each::check_each;
@@ -36,7 +35,7 @@ pub use index::CurrentInode;
 pub use member::{Checker, Member};
 pub use reader::ArchiveReader;
 
-use crate::{Lengths, Refusal, Stored};
+use crate::{Lengths, Stored};
 
 /// How many bytes of pages an archive holds where nothing else is said.
 const CACHE_BYTES: usize = 64 << 20;
@@ -67,14 +66,6 @@ pub struct Archive {
     lengths: Lengths,
     index: Index,
     cache: Cache,
-}
-
-/// Bytes of a volume, in memory: all of it or a page.
-#[derive(Clone, Debug)]
-struct Part {
-    bytes: Arc<Vec<u8>>,
-    /// Where in the volume they begin.
-    start: u64,
 }
 
 impl Archive {
@@ -299,46 +290,7 @@ impl Archive {
     /// # Ok::<(), Box<dyn std::error::Error>>(())
     /// ```
     pub fn read_at(&self, place: Stored, buf: &mut [u8]) -> Result<(), ArchiveError> {
-        content::Parts::new(self).read(place, buf)
-    }
-
-    /// The bytes of a volume around an offset, which has to lie within it.
-    fn part(&self, place: Stored) -> Result<Part, ArchiveError> {
-        let missing = || ArchiveError::NoVolume {
-            sequence: place.volume,
-        };
-        let index = *self.places.get(&place.volume).ok_or_else(missing)?;
-        let member = &self.members[index];
-        let offset = place.offset.0;
-        if offset >= member.len() {
-            return Err(ArchiveError::Refused {
-                path: member.path.clone(),
-                refusal: Refusal::new(Refusal::NOT_THERE, offset),
-                blocks: None,
-            });
-        }
-        let digests = match &member.stock {
-            Stock::Kept(bytes) => {
-                let (bytes, start) = (Arc::clone(bytes), 0);
-                return Ok(Part { bytes, start });
-            }
-            Stock::File(digests) => digests,
-        };
-        let page = offset as usize / PAGE_LEN;
-        let start = (page * PAGE_LEN) as u64;
-        if let Some(bytes) = self.cache.get((index, page)) {
-            return Ok(Part { bytes, start });
-        }
-        let bytes = digests.read(&member.path, page).map_err(|error| {
-            let path = member.path.clone();
-            match error {
-                PageError::Io(error) => ArchiveError::Io { path, error },
-                PageError::Changed => ArchiveError::Changed { path },
-            }
-        })?;
-        let bytes = Arc::new(bytes);
-        self.cache.put((index, page), Arc::clone(&bytes));
-        Ok(Part { bytes, start })
+        store::Parts::new(self).read(place, buf)
     }
 }
 

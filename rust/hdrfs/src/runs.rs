@@ -82,6 +82,7 @@ impl<'a> Runs<'a> {
 impl Iterator for Runs<'_> {
     type Item = Result<Run, Refusal>;
 
+    #[inline]
     fn next(&mut self) -> Option<Result<Run, Refusal>> {
         self.0.next()
     }

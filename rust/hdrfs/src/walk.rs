@@ -38,7 +38,7 @@ pub(crate) struct Walk<S> {
     numbers: Vec<u64>,
     count: usize,
     seen: usize,
-    /// The last run looked at, which may go on.
+    /// The last run of the piece before, which may go on.
     held: Option<Run>,
     /// Up to where the pieces reach, and where the last one is to end.
     at: u64,
@@ -111,6 +111,7 @@ impl<S: Source> Walk<S> {
     }
 
     /// A run of the last piece.
+    #[inline]
     fn run(&self, index: usize) -> Run {
         let numbers = &self.numbers[index * RUN_LEN..][..RUN_LEN];
         Run {
@@ -123,30 +124,58 @@ impl<S: Source> Walk<S> {
         }
     }
 
-    /// The next run that is known to be whole, as far as the last piece shows.
-    fn next_whole(&mut self) -> Option<Run> {
-        while self.seen < self.count {
-            let run = self.run(self.seen);
-            self.seen += 1;
-            match &mut self.held {
-                Some(held) if run.start < held.end() => held.len = run.end().0 - held.start.0,
-                held => {
-                    if let Some(whole) = held.replace(run) {
-                        return Some(whole);
-                    }
-                }
+    /// The next run of the last piece that is neither its last one nor before the one held. Such a
+    /// run is whole. Nearly all are, so this is what the time of a walk is made of.
+    #[inline]
+    fn next_inner(&mut self) -> Option<Run> {
+        if self.held.is_some() || self.count <= self.seen + 1 {
+            return None;
+        }
+        self.seen += 1;
+        Some(self.run(self.seen - 1))
+    }
+
+    /// The run held, once it is known to be whole. The last run of a piece is held.
+    fn next_outer(&mut self) -> Option<Run> {
+        if self.seen == self.count {
+            return None;
+        }
+        let run = self.run(self.seen);
+        match &mut self.held {
+            Some(held) if run.start < held.end() => {
+                held.len = run.end().0 - held.start.0;
+                self.seen += 1;
+                // If more follows, it ends here.
+                self.held.take_if(|_| self.seen < self.count)
+            }
+            Some(_) => self.held.take(),
+            None => {
+                self.seen += 1;
+                self.held = Some(run);
+                None
             }
         }
-        None
     }
 }
 
 impl<S: Source> Iterator for Walk<S> {
     type Item = Result<Run, Refusal>;
 
+    #[inline]
     fn next(&mut self) -> Option<Result<Run, Refusal>> {
+        match self.next_inner() {
+            Some(run) => Some(Ok(run)),
+            None => self.next_piece(),
+        }
+    }
+}
+
+impl<S: Source> Walk<S> {
+    /// The next run, where it may be the one held or in the next piece.
+    fn next_piece(&mut self) -> Option<Result<Run, Refusal>> {
         loop {
-            if let Some(run) = self.next_whole() {
+            let run = self.next_inner().or_else(|| self.next_outer());
+            if let Some(run) = run {
                 return Some(Ok(run));
             }
             if self.over {

@@ -30,11 +30,22 @@ impl Cache {
         }
     }
 
-    pub(crate) fn get(&self, key: Key) -> Option<Arc<Vec<u8>>> {
-        self.held().pages.get(&key).cloned()
+    /// A page that is held, or else one that is read and held from now on. Nobody waits for others
+    /// who read: two may read the same page at the same time, and then hold one of the two.
+    pub(crate) fn get_or_read<E>(
+        &self,
+        key: Key,
+        read: impl FnOnce() -> Result<Vec<u8>, E>,
+    ) -> Result<Arc<Vec<u8>>, E> {
+        if let Some(page) = self.held().pages.get(&key) {
+            return Ok(Arc::clone(page));
+        }
+        let page = Arc::new(read()?);
+        self.put(key, Arc::clone(&page));
+        Ok(page)
     }
 
-    pub(crate) fn put(&self, key: Key, page: Arc<Vec<u8>>) {
+    fn put(&self, key: Key, page: Arc<Vec<u8>>) {
         if self.most == 0 {
             return;
         }

@@ -2,7 +2,8 @@
 
 use std::path::Path;
 
-use super::{Archive, ArchiveError, Part};
+use super::store::Parts;
+use super::ArchiveError;
 use crate::pace::Pace;
 use crate::walk::RUN_LEN;
 use crate::{sys, File, Logical, Physical, Refusal, Run, Stored};
@@ -18,7 +19,8 @@ const ROOMS: [usize; 2] = [2 * 1024 + 1, 65_536];
 pub(super) struct Pieces<'a> {
     file: File<'a>,
     size: u64,
-    numbers: Vec<u64>,
+    /// Room for runs, five numbers each, as the library gives them.
+    rows: Vec<[u64; RUN_LEN]>,
     /// How many runs are held, and the one that was looked at last.
     count: usize,
     seen: usize,
@@ -30,7 +32,7 @@ impl<'a> Pieces<'a> {
         Pieces {
             file,
             size,
-            numbers: Vec::new(),
+            rows: Vec::new(),
             count: 0,
             seen: 0,
             pace: Pace::new(),
@@ -38,72 +40,53 @@ impl<'a> Pieces<'a> {
     }
 
     /// The run at a position, from there on. Nothing at and after the end of the file.
+    #[inline]
     pub(super) fn at(&mut self, position: u64) -> Result<Option<Run>, Refusal> {
         if self.size <= position {
             return Ok(None);
         }
-        if !self.find(position) {
+        if !self.follows(position) && !self.find(position) {
             self.ask(position)?;
         }
-        let mut run = self.run(self.seen);
-        let before = position - run.start.0;
-        run.start = Logical(position);
-        run.len -= before;
-        if let Some(place) = &mut run.stored {
-            place.offset.0 += before;
-        }
-        Ok(Some(run))
-    }
-
-    /// Looks for the run at a position among those that are held.
-    fn find(&mut self, position: u64) -> bool {
-        // Most often it is the last one or the one after it.
-        for seen in self.seen..self.count.min(self.seen + 2) {
-            if self.has(seen, position) {
-                self.seen = seen;
-                return true;
-            }
-        }
-        let (mut low, mut high) = (0, self.count);
-        while low < high {
-            let middle = low + (high - low) / 2;
-            if self.numbers[middle * RUN_LEN] <= position {
-                low = middle + 1;
-            } else {
-                high = middle;
-            }
-        }
-        self.seen = low.saturating_sub(1);
-        self.seen < self.count && self.has(self.seen, position)
-    }
-
-    fn has(&self, index: usize, position: u64) -> bool {
-        let [start, len] = [
-            self.numbers[index * RUN_LEN],
-            self.numbers[index * RUN_LEN + 1],
-        ];
-        start <= position && position - start < len
-    }
-
-    fn run(&self, index: usize) -> Run {
-        let numbers = &self.numbers[index * RUN_LEN..][..RUN_LEN];
-        Run {
-            start: Logical(numbers[0]),
-            len: numbers[1],
-            stored: (numbers[2] == sys::STORED).then_some(Stored {
-                volume: numbers[3],
-                offset: Physical(numbers[4]),
+        let [start, len, kind, volume, offset] = self.rows[self.seen];
+        let before = position - start;
+        Ok(Some(Run {
+            start: Logical(position),
+            len: len - before,
+            stored: (kind == sys::STORED).then_some(Stored {
+                volume,
+                offset: Physical(offset + before),
             }),
+        }))
+    }
+
+    /// Looks for the run at a position where it most often is: at the last place or the next one.
+    #[inline]
+    fn follows(&mut self, position: u64) -> bool {
+        let has = |row: &[u64; RUN_LEN]| row[0] <= position && position - row[0] < row[1];
+        let rows = &self.rows[..self.count];
+        let next = self.seen + 1;
+        if rows.get(next).is_some_and(has) {
+            self.seen = next;
+            return true;
         }
+        rows.get(self.seen).is_some_and(has)
+    }
+
+    /// Looks for the run at a position among all that are held.
+    fn find(&mut self, position: u64) -> bool {
+        let rows = &self.rows[..self.count];
+        let after = rows.partition_point(|row| row[0] <= position);
+        self.seen = after.saturating_sub(1);
+        self.follows(position)
     }
 
     /// Asks for runs that have a position: all of the file if there is room for them.
     fn ask(&mut self, position: u64) -> Result<(), Refusal> {
-        self.seen = 0;
         self.count = 0;
         for room in ROOMS {
-            if self.numbers.len() < room * RUN_LEN {
-                self.numbers.resize(room * RUN_LEN, 0);
+            if self.rows.len() < room {
+                self.rows.resize(room, [0; RUN_LEN]);
                 if self.hold(0, u64::MAX)? {
                     self.find(position);
                     return Ok(());
@@ -111,8 +94,8 @@ impl<'a> Pieces<'a> {
             }
         }
         self.pace.moved();
+        let room = self.rows.len() as u64;
         loop {
-            let room = (self.numbers.len() / RUN_LEN) as u64;
             let to = self.pace.range_end(position, self.size, room);
             if self.hold(position, to)? {
                 self.pace
@@ -125,7 +108,8 @@ impl<'a> Pieces<'a> {
 
     /// Holds the runs of a range; false where there is no room for them.
     fn hold(&mut self, from: u64, to: u64) -> Result<bool, Refusal> {
-        match self.file.ask(from, to, &mut self.numbers) {
+        self.seen = 0;
+        match self.file.ask(from, to, self.rows.as_flattened_mut()) {
             Ok(count) => {
                 self.count = count;
                 Ok(true)
@@ -133,51 +117,6 @@ impl<'a> Pieces<'a> {
             Err(refusal) if refusal.number == Refusal::NO_ROOM => Ok(false),
             Err(refusal) => Err(refusal),
         }
-    }
-}
-
-/// Stored bytes, with the part of a volume that was needed last at hand.
-#[derive(Debug)]
-pub(super) struct Parts<'a> {
-    archive: &'a Archive,
-    last: Option<(u64, Part)>,
-}
-
-impl<'a> Parts<'a> {
-    pub(super) fn new(archive: &'a Archive) -> Parts<'a> {
-        let last = None;
-        Parts { archive, last }
-    }
-
-    /// Fills the buffer with what is stored at a place.
-    pub(super) fn read(
-        &mut self,
-        mut place: Stored,
-        mut buf: &mut [u8],
-    ) -> Result<(), ArchiveError> {
-        while !buf.is_empty() {
-            let bytes = self.bytes(place)?;
-            let len = bytes.len().min(buf.len());
-            let (filled, rest) = buf.split_at_mut(len);
-            filled.copy_from_slice(&bytes[..len]);
-            buf = rest;
-            place.offset.0 += len as u64;
-        }
-        Ok(())
-    }
-
-    /// What is at hand of a volume from a place on: at least a byte.
-    fn bytes(&mut self, place: Stored) -> Result<&[u8], ArchiveError> {
-        let Stored { volume, offset } = place;
-        let at_hand = self.last.as_ref().is_some_and(|(number, part)| {
-            let end = part.start + part.bytes.len() as u64;
-            *number == volume && (part.start..end).contains(&offset.0)
-        });
-        if !at_hand {
-            self.last = Some((volume, self.archive.part(place)?));
-        }
-        let (_, part) = self.last.as_ref().expect("it was put there");
-        Ok(&part.bytes[(offset.0 - part.start) as usize..])
     }
 }
 

@@ -2,8 +2,9 @@
 
 use std::path::Path;
 
-use super::content::{Content, Parts, Pieces};
+use super::content::{Content, Pieces};
 use super::lack;
+use super::store::Parts;
 use super::{Archive, ArchiveError, ArchiveReader, Chunks, CurrentInode};
 use crate::{Block, Blocks, Bookmark, Content as Said, File, Inode, Logical, Physical};
 use crate::{Place, Refusal, Runs, Stored};

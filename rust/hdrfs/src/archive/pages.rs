@@ -1,15 +1,11 @@
 //! Volumes in pages: what was checked is remembered as a digest of each page, and a page that is
 //! read again has to have the digest that it had.
-//!
-//! A digest has 64 bits, made with a key that is drawn anew for every volume. That a page changed
-//! and kept its digest is as likely as guessing such a number, and nobody who does not know the key
-//! can prepare a page that does.
 
-use std::collections::hash_map::RandomState;
 use std::fs::{self, File};
-use std::hash::{BuildHasher, Hasher};
 use std::io::{self, Read, Seek, SeekFrom};
 use std::path::Path;
+
+use super::digest::digest;
 
 /// How many bytes a page has; the last page of a volume may have fewer.
 pub(crate) const PAGE_LEN: usize = 65_536;
@@ -17,8 +13,7 @@ pub(crate) const PAGE_LEN: usize = 65_536;
 /// The digests of the pages of a volume.
 #[derive(Clone, Debug)]
 pub(crate) struct Digests {
-    key: RandomState,
-    pages: Vec<u64>,
+    pages: Vec<u128>,
     len: usize,
 }
 
@@ -32,11 +27,8 @@ pub(crate) enum PageError {
 
 impl Digests {
     pub(crate) fn of(volume: &[u8]) -> Digests {
-        let key = RandomState::new();
-        let pages = volume.chunks(PAGE_LEN).map(|page| digest(&key, page));
         Digests {
-            pages: pages.collect(),
-            key,
+            pages: volume.chunks(PAGE_LEN).map(digest).collect(),
             len: volume.len(),
         }
     }
@@ -50,7 +42,7 @@ impl Digests {
         }
         let from = index * PAGE_LEN;
         let page = read_part(path, from, PAGE_LEN.min(self.len - from))?;
-        if digest(&self.key, &page) != self.pages[index] {
+        if digest(&page) != self.pages[index] {
             return Err(PageError::Changed);
         }
         Ok(page)
@@ -68,10 +60,4 @@ fn read_part(path: &Path, from: usize, len: usize) -> Result<Vec<u8>, PageError>
         Err(error) if error.kind() == io::ErrorKind::UnexpectedEof => Err(PageError::Changed),
         Err(error) => Err(PageError::Io(error)),
     }
-}
-
-fn digest(key: &RandomState, page: &[u8]) -> u64 {
-    let mut hasher = key.build_hasher();
-    hasher.write(page);
-    hasher.finish()
 }

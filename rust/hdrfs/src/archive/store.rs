@@ -1,0 +1,108 @@
+//! Stored bytes, out of the volumes of an archive.
+
+use std::sync::Arc;
+
+use super::member::Stock;
+use super::pages::{Digests, PageError, PAGE_LEN};
+use super::{Archive, ArchiveError, Member};
+use crate::{Refusal, Stored};
+
+/// Bytes of a volume, in memory: all of it or a page.
+#[derive(Clone, Debug)]
+struct Part {
+    /// The sequence number of the volume, and where in it the bytes begin.
+    volume: u64,
+    start: u64,
+    bytes: Arc<Vec<u8>>,
+}
+
+impl Part {
+    #[inline]
+    fn has(&self, place: Stored) -> bool {
+        let Stored { volume, offset } = place;
+        let before = offset.0.checked_sub(self.start);
+        volume == self.volume && before.is_some_and(|before| before < self.bytes.len() as u64)
+    }
+}
+
+/// Stored bytes, with the part of a volume that was needed last at hand.
+#[derive(Debug)]
+pub(super) struct Parts<'a> {
+    archive: &'a Archive,
+    last: Option<Part>,
+}
+
+impl<'a> Parts<'a> {
+    pub(super) fn new(archive: &'a Archive) -> Parts<'a> {
+        let last = None;
+        Parts { archive, last }
+    }
+
+    /// Fills the buffer with what is stored at a place.
+    #[inline]
+    pub(super) fn read(
+        &mut self,
+        mut place: Stored,
+        mut buf: &mut [u8],
+    ) -> Result<(), ArchiveError> {
+        while !buf.is_empty() {
+            let bytes = self.bytes(place)?;
+            let len = bytes.len().min(buf.len());
+            let (filled, rest) = buf.split_at_mut(len);
+            filled.copy_from_slice(&bytes[..len]);
+            buf = rest;
+            place.offset.0 += len as u64;
+        }
+        Ok(())
+    }
+
+    /// What is at hand of a volume from a place on: at least a byte.
+    #[inline]
+    fn bytes(&mut self, place: Stored) -> Result<&[u8], ArchiveError> {
+        if !self.last.as_ref().is_some_and(|part| part.has(place)) {
+            self.last = Some(part(self.archive, place)?);
+        }
+        let part = self.last.as_ref().expect("it was put there");
+        Ok(&part.bytes[(place.offset.0 - part.start) as usize..])
+    }
+}
+
+/// The bytes of a volume around a place, which has to lie within it.
+fn part(archive: &Archive, place: Stored) -> Result<Part, ArchiveError> {
+    let Stored { volume, offset } = place;
+    let given = archive.places.get(&volume);
+    let index = *given.ok_or(ArchiveError::NoVolume { sequence: volume })?;
+    let member = &archive.members[index];
+    if member.len() <= offset.0 {
+        return Err(ArchiveError::Refused {
+            path: member.path.clone(),
+            refusal: Refusal::new(Refusal::NOT_THERE, offset.0),
+            blocks: None,
+        });
+    }
+    let (start, bytes) = match &member.stock {
+        Stock::Kept(bytes) => (0, Arc::clone(bytes)),
+        Stock::File(digests) => {
+            let number = offset.0 as usize / PAGE_LEN;
+            let read = || read_page(member, digests, number);
+            let page = archive.cache.get_or_read((index, number), read)?;
+            ((number * PAGE_LEN) as u64, page)
+        }
+    };
+    Ok(Part {
+        volume,
+        start,
+        bytes,
+    })
+}
+
+/// Reads a page of a volume once more.
+fn read_page(member: &Member, digests: &Digests, number: usize) -> Result<Vec<u8>, ArchiveError> {
+    let path = || member.path.clone();
+    digests
+        .read(&member.path, number)
+        .map_err(|error| match error {
+            PageError::Io(error) => ArchiveError::io(path(), error),
+            PageError::Changed => ArchiveError::Changed { path: path() },
+        })
+}
