@@ -2,18 +2,26 @@
 
 use hdrfs::{Block, Content, FileType, Inode, Link};
 
-use crate::json::Object;
+use crate::json::{list, Object};
 use crate::text::{count, quoted};
 
 pub const HEADING: &str =
     " block    offset  kind             length                  time  about\n";
 
-/// A block in a line. What it is about stands last, since names may have blanks in them.
+/// A block in a line. What it is about stands last, since names may have blanks in them. Below a
+/// table its links stand in the same column.
 pub fn line(number: u64, block: &Block) -> String {
     let time = block.time.map_or("-".to_string(), |time| time.to_string());
     let (offset, len) = (block.offset, block.len());
     let (kind, about) = (kind(&block.content), about(&block.content));
-    format!("{number:>6}  {offset:>8}  {kind:<13}  {len:>8}  {time:>20}  {about}\n")
+    let mut lines =
+        format!("{number:>6}  {offset:>8}  {kind:<13}  {len:>8}  {time:>20}  {about}\n");
+    if let Content::LinkTable(table) = &block.content {
+        for link in table {
+            lines += &format!("{:65}{}\n", "", about_link("link", &link));
+        }
+    }
+    lines
 }
 
 fn kind(content: &Content) -> &'static str {
@@ -30,14 +38,10 @@ fn kind(content: &Content) -> &'static str {
 }
 
 fn about(content: &Content) -> String {
-    let link = |word: &str, link: &Link| {
-        let (child, parent, name) = (link.child, link.parent, quoted(link.name));
-        format!("{word} {child} in {parent} {name}")
-    };
     match content {
         Content::Inode(inode) => about_inode(inode),
-        Content::Link(new) => link("link", new),
-        Content::Unlink(old) => link("unlink", old),
+        Content::Link(link) => about_link("link", link),
+        Content::Unlink(link) => about_link("unlink", link),
         Content::Xattr { inode, name, value } => {
             let len = count(value.len() as u64, "byte");
             format!("inode {inode}, attribute {}, {len}", quoted(name))
@@ -49,6 +53,11 @@ fn about(content: &Content) -> String {
         Content::Rename { old, new } => format!("{} to {}", quoted(old), quoted(new)),
         Content::LinkTable(table) => count(table.len() as u64, "link"),
     }
+}
+
+fn about_link(word: &str, link: &Link) -> String {
+    let (child, parent, name) = (link.child, link.parent, quoted(link.name));
+    format!("{word} {child} in {parent} {name}")
 }
 
 fn about_inode(inode: &Inode) -> String {
@@ -79,10 +88,7 @@ pub fn object(number: u64, block: &Block) -> Object {
 fn members(object: Object, content: &Content) -> Object {
     match content {
         Content::Inode(inode) => inode_members(object, inode),
-        Content::Link(link) | Content::Unlink(link) => object
-            .number("child", link.child)
-            .number("parent", link.parent)
-            .text("name", link.name),
+        Content::Link(link) | Content::Unlink(link) => link_members(object, link),
         Content::Xattr { inode, name, value } => object
             .number("inode", *inode)
             .text("name", name)
@@ -90,8 +96,19 @@ fn members(object: Object, content: &Content) -> Object {
         Content::RemovedXattr { inode, name } => object.number("inode", *inode).text("name", name),
         Content::Data { payload } => object.number("size", payload.len() as u64),
         Content::Rename { old, new } => object.text("old", old).text("new", new),
-        Content::LinkTable(table) => object.number("links", table.len() as u64),
+        Content::LinkTable(table) => {
+            let links = table.iter();
+            let links = links.map(|link| link_members(Object::new(), &link).text_of());
+            object.raw("links", &list(links))
+        }
     }
+}
+
+fn link_members(object: Object, link: &Link) -> Object {
+    object
+        .number("child", link.child)
+        .number("parent", link.parent)
+        .text("name", link.name)
 }
 
 fn inode_members(object: Object, inode: &Inode) -> Object {

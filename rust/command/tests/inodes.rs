@@ -69,11 +69,12 @@ fn the_long_form_of_a_listing() {
         lines[1],
         " block    offset  kind             length                  time  about"
     );
-    let about: Vec<&str> = lines[2..12].iter().map(|line| &line[65..]).collect();
+    let about: Vec<&str> = lines[2..13].iter().map(|line| &line[65..]).collect();
     assert_eq!(
         about,
         [
             "1 link",
+            "link 7 in 1 \"gauge\"",
             "inode 1, folder",
             "inode 7, regular, 3 bytes",
             "inode 8, symbolic link to \"gauge\"",
@@ -89,12 +90,12 @@ fn the_long_form_of_a_listing() {
     assert_eq!(lines[2], table);
     let folder_line =
         "     2       116  inode                75                     1  inode 1, folder";
-    assert_eq!(lines[3], folder_line);
+    assert_eq!(lines[4], folder_line);
     let end = all_kinds().len();
-    assert_eq!(lines[12], format!("end {end} blocks 10"));
+    assert_eq!(lines[13], format!("end {end} blocks 10"));
     assert_eq!(
         (lines.len(), answer.status, answer.err.as_str()),
-        (13, 0, "")
+        (14, 0, "")
     );
     assert!(!answer.out.contains('\x1b'));
 }
@@ -121,13 +122,18 @@ fn the_long_form_for_machines() {
     let objects = folder.run("list v --long --json").objects();
     assert_eq!(objects.len(), 12);
     assert_eq!(objects[0]["id"], NO_ID.into());
+    let link = object([
+        ("child", 7.into()),
+        ("parent", 1.into()),
+        ("name", "gauge".into()),
+    ]);
     let table = object([
         ("block", 1.into()),
         ("offset", 80.into()),
         ("id", 8.into()),
         ("kind", "link table".into()),
         ("length", 36.into()),
-        ("links", 1.into()),
+        ("links", vec![link].into()),
     ]);
     assert_eq!(objects[1], table);
     assert_eq!(objects[4]["target"], "gauge".into());
