@@ -1,19 +1,22 @@
-# `make demo` shows the library at work; `make test` proves and runs everything, and is what CI runs.
+# `make demo` shows the library at work; `make test` proves and runs everything, and is what CI runs; `make install` puts the
+# command hdrfs and its page below PREFIX.
 SHELL := /bin/bash
 .SHELLFLAGS := -euo pipefail -c
-.PHONY: demo test calls rust-tests bench check fmt
+.PHONY: demo install test calls rust-tests bench check fmt
 
 SAMPLES := crates/samples/data
 HDRFS := rust/target/release/hdrfs
+LIBRARY := target/staticlib/libexchange.a
 DEMO := target/demo
+PREFIX ?= /usr/local
 
 # The programs written in Rattle have no exit status, so what they wrote is looked at by others: the command's check, and cmp.
 demo:
 	@rm -rf $(DEMO) && mkdir -p $(DEMO)
 	@echo "Proving what is shown here; the first time takes some minutes."
-	@rt check hdrfs_list gauge_archive > $(DEMO)/proof.log || { tail -n 40 $(DEMO)/proof.log; exit 1; }
+	@tools/prove $(DEMO)/proof.log check hdrfs_list gauge_archive
 	@tail -n 1 $(DEMO)/proof.log
-	@cargo build --release --offline --quiet --manifest-path rust/Cargo.toml --package hdrfs-command
+	@$(MAKE) --no-print-directory $(HDRFS)
 	@echo
 	@echo "A volume with a block of every kind, and one with a damaged byte, listed:"
 	@./target/bin/hdrfs_list < $(SAMPLES)/all_kinds.vol
@@ -21,16 +24,31 @@ demo:
 	@echo
 	@echo "A river gauge's archive of three volumes, written and checked:"
 	@./target/bin/gauge_archive $(DEMO)/0.vol $(DEMO)/1.vol $(DEMO)/2.vol
-	@$(HDRFS) check $(DEMO)/*.vol
-	@$(HDRFS) list $(DEMO)/2.vol
+	@$(HDRFS) check $(DEMO)
+	@echo
+	@echo "What is in it, and the blocks of its last volume:"
+	@$(HDRFS) inodes $(DEMO)
+	@$(HDRFS) list --long $(DEMO)/2.vol
 	@echo
 	@echo "The gauge's file out of all three, and its end, with a dot for each byte of its hole:"
-	@$(HDRFS) extract $(DEMO)/*.vol --inode 7 -o $(DEMO)/gauge.csv
+	@$(HDRFS) extract $(DEMO) --inode 7 -o $(DEMO)/gauge.csv
 	@tail -c 107 $(DEMO)/gauge.csv | tr '\0' '.' && echo
 	@test "$$(tail -c 3 $(DEMO)/gauge.csv)" = "1,5"
 	@cmp $(DEMO)/gauge.csv tests/gauge/expected.csv
 	@echo
 	@echo "It ends in 1,5 and is byte for byte the file in tests/gauge."
+
+# The command; cargo knows what of it is up to date. Its library is proved before, where it is missing or older than its
+# sources: cargo's build would do it too, and show nothing meanwhile. HDRFS_ARCHIVE may name a ready one.
+.PHONY: $(HDRFS)
+$(HDRFS):
+	@if [[ -z $${HDRFS_ARCHIVE:-} && ( ! -f $(LIBRARY) || -n $$(find crates crates.txt -newer $(LIBRARY) -print -quit) ) ]]; \
+	then mkdir -p target; tools/prove target/library.log staticlib exchange; fi
+	@cargo build --release --offline --quiet --manifest-path rust/Cargo.toml --package hdrfs-command
+
+install: $(HDRFS)
+	install -D -m 755 $(HDRFS) $(DESTDIR)$(PREFIX)/bin/hdrfs
+	install -D -m 644 man/hdrfs.1 $(DESTDIR)$(PREFIX)/share/man/man1/hdrfs.1
 
 # The proofs come first; their last line, 'N passed, 0 failed', is printed again at the end, and only if all tests passed.
 test:

@@ -207,3 +207,10 @@ fn short(word: &str) -> Option<(&'static Opt, Option<&str>)> {
     }
     None
 }
+
+/// The names of all options.
+#[cfg(test)]
+pub fn names() -> impl Iterator<Item = &'static str> {
+    let short = OPTIONS.iter().filter_map(|option| option.short);
+    OPTIONS.iter().map(|option| option.long).chain(short)
+}

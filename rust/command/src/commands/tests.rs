@@ -234,3 +234,18 @@ fn machines_are_answered_also_on_wrong_use() {
     let (asked, json) = read(words("check --fast -- --json"));
     assert!(asked.is_err() && !json);
 }
+
+/// The page for `man` names every command and every option, and has the version.
+#[test]
+fn the_page_is_complete() {
+    let page = include_str!("../../../../man/hdrfs.1").replace("\\-", "-");
+    for command in &COMMANDS {
+        let name = command.name;
+        assert!(page.contains(&format!("\n.B hdrfs {name}\n")), "{name}");
+        assert!(page.contains(&format!("\n.TP\n.B {name}\n")), "{name}");
+    }
+    for option in crate::words::names() {
+        assert!(page.contains(option), "{option}");
+    }
+    assert!(page.contains(&format!("\"{}\"", help::VERSION.trim_end())));
+}
