@@ -145,24 +145,26 @@ impl Report {
         if let Some(failure) = &self.no_set {
             return format!("{whole}not one set: {failure}\n");
         }
-        let gap = |first: u64, last: u64| match first == last {
-            true => format!("{first}"),
-            false => format!("{first} to {last}"),
-        };
         let id = hex(&self.set.id().unwrap_or_default());
         let mut sequences = self.set.volumes().map(Member::sequence);
         let first = sequences.next().unwrap_or(0);
-        let numbers = gap(first, sequences.next_back().unwrap_or(first));
-        let gaps: Vec<String> = self
-            .set
-            .gaps()
+        let volumes = match sequences.next_back() {
+            Some(last) => format!("volumes {first} to {last}"),
+            None => format!("volume {first}"),
+        };
+        let gap = |first: u64, last: u64| match first == last {
+            true => first.to_string(),
+            false => format!("{first} to {last}"),
+        };
+        let gaps = self.set.gaps();
+        let gaps: Vec<String> = gaps
             .map(|range| gap(*range.start(), *range.end()))
             .collect();
         let missing = match gaps.is_empty() {
             true => "none missing".to_string(),
             false => format!("missing {}", listed(&gaps)),
         };
-        format!("{whole}one set: file system {id}, volumes {numbers}, {missing}\n")
+        format!("{whole}one set: file system {id}, {volumes}, {missing}\n")
     }
 
     fn set_object(&self) -> Object {

@@ -1,7 +1,7 @@
 //! `hdrfs extract`: the content of a file, written to a file or to standard output.
 
 use std::fs::File;
-use std::io::{self, Write};
+use std::io::{self, IsTerminal, Write};
 use std::num::NonZeroUsize;
 use std::os::unix::fs::FileExt;
 use std::path::PathBuf;
@@ -92,7 +92,7 @@ impl Extract {
         let mode = file.current().mode.into();
         let temporary = Temporary::beside(target, mode).map_err(unwritten)?;
         set_len(&temporary.file, file.size()).map_err(unwritten)?;
-        let stored = copy(file, |chunk| match chunk {
+        let stored = copy(file, progress(file), |chunk| match chunk {
             // The file is all hole at first.
             Chunk::Hole { .. } => Ok(()),
             Chunk::Bytes { start, bytes } => temporary
@@ -116,7 +116,9 @@ fn set_len(file: &File, size: u64) -> io::Result<()> {
 fn to_output(file: &ArchiveFile) -> Result<u64, Failure> {
     let mut out = io::stdout().lock();
     let zeros = [0; 1 << 16];
-    let stored = copy(file, |chunk| match chunk {
+    // On a terminal the content itself shows how far it is.
+    let progress = (!out.is_terminal()).then(|| progress(file));
+    let stored = copy(file, progress, |chunk| match chunk {
         Chunk::Hole { len, .. } => write_hole(&mut out, &zeros, len).map_err(Failure::Output),
         Chunk::Bytes { bytes, .. } => out.write_all(bytes).map_err(Failure::Output),
     })?;
@@ -134,22 +136,30 @@ fn write_hole(out: &mut impl Write, zeros: &[u8], len: u64) -> io::Result<()> {
     Ok(())
 }
 
+fn progress(file: &ArchiveFile) -> Progress {
+    Progress::new("DONE of ALL bytes written", file.size())
+}
+
 /// Hands on all of a file in rising order, and answers how many of its bytes are stored.
 fn copy(
     file: &ArchiveFile,
+    progress: impl Into<Option<Progress>>,
     mut put: impl FnMut(Chunk) -> Result<(), Failure>,
 ) -> Result<u64, Failure> {
-    let progress = Progress::new("DONE of ALL bytes written", file.size());
+    let progress = progress.into();
     let mut stored = 0;
     let mut chunks = file.chunks();
     while let Some(chunk) = chunks.next()? {
         put(chunk)?;
-        match chunk {
-            Chunk::Hole { len, .. } => progress.add(len),
+        let len = match chunk {
+            Chunk::Hole { len, .. } => len,
             Chunk::Bytes { bytes, .. } => {
                 stored += bytes.len() as u64;
-                progress.add(bytes.len() as u64);
+                bytes.len() as u64
             }
+        };
+        if let Some(progress) = &progress {
+            progress.add(len);
         }
     }
     Ok(stored)

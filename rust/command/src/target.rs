@@ -97,6 +97,14 @@ fn existing(out: &Path, own: &Metadata) -> Result<Target, String> {
         io::ErrorKind::NotFound => format!("{link} that leads to no file"),
         _ => format!("{link} that cannot be followed: {error}"),
     })?;
+    let before = Before {
+        device: about.dev(),
+        number: about.ino(),
+        mode: about.mode(),
+    };
+    if standard_output().is_some_and(|output| before.is_same(&output)) {
+        return Err("is where standard output goes; -o - writes there".to_string());
+    }
     if !about.is_file() {
         let kind = kind(about.file_type());
         return Err(match own.is_symlink() {
@@ -105,17 +113,9 @@ fn existing(out: &Path, own: &Metadata) -> Result<Target, String> {
         });
     }
     let path = fs::canonicalize(out).map_err(|_| format!("{link} that leads to no name"))?;
-    let before = Before {
-        device: about.dev(),
-        number: about.ino(),
-        mode: about.mode(),
-    };
     // A link in /proc may lead to an open file whose name is another file's by now.
     if !fs::symlink_metadata(&path).is_ok_and(|found| before.is_same(&found)) {
         return Err(format!("{link} that leads to no name"));
-    }
-    if standard_output().is_some_and(|output| before.is_same(&output)) {
-        return Err("is where standard output goes; -o - writes there".to_string());
     }
     Ok(Target {
         path,

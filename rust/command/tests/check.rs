@@ -46,7 +46,7 @@ fn a_file_that_is_not_there() {
     );
     assert_eq!(answer.err.lines().count(), 1);
     assert!(answer.out.contains("sound: accepted"), "{answer:?}");
-    let set = format!("of those accepted: one set: file system {NO_ID}, volumes 0, none missing\n");
+    let set = format!("of those accepted: one set: file system {NO_ID}, volume 0, none missing\n");
     let end = format!("3 files: 1 accepted, 1 refused, 1 not read\n{set}");
     assert!(answer.out.ends_with(&end), "{answer:?}");
 }

@@ -80,32 +80,37 @@ fn a_link_that_leads_nowhere_is_refused() {
 #[test]
 fn links_to_what_is_open_are_not_replaced() {
     let folder = folder("targets_open");
-    symlink("/proc/self/fd/1", folder.0.join("out")).unwrap();
-    folder.run("extract v0 v1 --inode 7 -o out").is(
-        2,
-        "",
-        "hdrfs: out is a symbolic link to a pipe, which is not replaced by a file\n",
-    );
-    let answer = folder.run("extract v0 v1 --inode 7 -o /proc/self/fd/1");
+    for (descriptor, name) in [(0, "in"), (1, "out"), (2, "err")] {
+        let link = format!("/proc/self/fd/{descriptor}");
+        symlink(link, folder.0.join(name)).unwrap();
+    }
+    let before = folder.names();
+    let said = "hdrfs: out is where standard output goes; -o - writes there\n";
+    folder.run("extract v0 v1 --inode 7 -o out").is(2, "", said);
+    let said = "hdrfs: err is a symbolic link to a pipe, which is not replaced by a file\n";
+    folder.run("extract v0 v1 --inode 7 -o err").is(2, "", said);
+    let answer = folder.run("extract v0 v1 --inode 7 -o /proc/self/fd/2");
     assert_eq!((answer.status, answer.out.as_str()), (2, ""), "{answer:?}");
-    let about = fs::symlink_metadata(folder.0.join("out")).unwrap();
-    assert!(about.is_symlink());
+    assert_eq!(folder.names(), before);
     // The open file has lost its name, and another file has got the name that the link shows.
     for other in ["gone", "gone (deleted)"] {
-        folder.put("gone", b"");
         let gone = fs::File::create(folder.0.join("gone")).unwrap();
         fs::remove_file(folder.0.join("gone")).unwrap();
         if other != "gone" {
             folder.put(other, b"as it was");
         }
         let mut command = folder.command();
-        command.args(["extract", "v0", "v1", "--inode", "7", "-o", "out"]);
-        let output = command.stdout(gone).output().unwrap();
+        command.args(["extract", "v0", "v1", "--inode", "7", "-o", "in"]);
+        let output = command.stdin(gone).output().unwrap();
         assert_eq!(output.status.code(), Some(2));
-        let said = "hdrfs: out is a symbolic link that leads to no name\n";
+        let said = "hdrfs: in is a symbolic link that leads to no name\n";
         assert_eq!(String::from_utf8_lossy(&output.stderr), said);
     }
     assert_eq!(folder.read("gone (deleted)"), b"as it was");
+    for name in ["in", "out", "err"] {
+        let about = fs::symlink_metadata(folder.0.join(name)).unwrap();
+        assert!(about.is_symlink(), "{name}");
+    }
 }
 
 #[test]

@@ -118,3 +118,16 @@ fn a_long_file_shows_how_much_is_written() {
     send(&child, "TERM");
     child.wait().unwrap();
 }
+
+/// Content on a terminal is not mixed with a line about it.
+#[test]
+fn content_on_a_terminal_is_alone() {
+    let folder = folder("terminal_content");
+    let line = "extract v0 slow --inode 7 -o - -j 1";
+    let (mut child, mut terminal) = start(&folder, line, "xterm", true);
+    terminal.wait_for("\r1 of 2 volumes read\x1b[K");
+    folder.feed("slow", &mut child, &slow());
+    assert!(child.wait().unwrap().success());
+    let seen = terminal.read_to_end();
+    assert!(seen.ends_with("\r\x1b[K1,5"), "{seen:?}");
+}
