@@ -15,6 +15,7 @@ use crate::json::Object;
 use crate::output;
 use crate::progress::Progress;
 use crate::set;
+use crate::system;
 use crate::target::Target;
 use crate::temporary::Temporary;
 use crate::text::{count, shown};
@@ -89,6 +90,7 @@ impl Extract {
             path: self.out.clone(),
             error,
         };
+        system::fail_on_long_files();
         let mode = file.current().mode.into();
         let temporary = Temporary::beside(target, mode).map_err(unwritten)?;
         set_len(&temporary.file, file.size()).map_err(unwritten)?;

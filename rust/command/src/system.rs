@@ -23,6 +23,7 @@ const SIGINT: c_int = 2;
 const SIGQUIT: c_int = 3;
 const SIGPIPE: c_int = 13;
 const SIGTERM: c_int = 15;
+const SIGXFSZ: c_int = 25;
 
 /// What a person or the machine ends a command with.
 const INTERRUPTS: [c_int; 4] = [SIGHUP, SIGINT, SIGQUIT, SIGTERM];
@@ -63,6 +64,13 @@ pub fn end_by_closed_pipe() {
         signal(SIGPIPE, SIG_DFL);
         raise(SIGPIPE);
     }
+}
+
+/// Has a file that grows beyond what its owner may have fail as on a full disk, and not end the
+/// command.
+pub fn fail_on_long_files() {
+    // SAFETY: the call takes numbers alone.
+    unsafe { signal(SIGXFSZ, SIG_IGN) };
 }
 
 /// Does something during which no interrupt comes; one that is sent meanwhile comes after it. No

@@ -1,5 +1,6 @@
 //! The file that `extract -o` writes: where it is, and what may not be replaced.
 
+use std::ffi::OsStr;
 use std::fs::{self, File, FileType, Metadata};
 use std::io;
 use std::os::fd::AsFd;
@@ -34,6 +35,10 @@ impl Target {
             path: out.to_path_buf(),
             error,
         };
+        if out.as_os_str().is_empty() {
+            let why = "the name of the file to write is empty";
+            return Err(Failure::Usage(why.to_string()));
+        }
         let name = name_of(out).map_err(|why| refused(why.to_string()))?;
         match fs::symlink_metadata(out) {
             Err(error) if error.kind() == io::ErrorKind::NotFound => {
@@ -68,11 +73,8 @@ impl Before {
 }
 
 /// The last part of a name, which has to be that of a file.
-fn name_of(out: &Path) -> Result<&std::ffi::OsStr, &'static str> {
+fn name_of(out: &Path) -> Result<&OsStr, &'static str> {
     let whole = out.as_os_str().as_encoded_bytes();
-    if whole.is_empty() {
-        return Err("is no name: the name of the file to write is empty");
-    }
     match out.file_name() {
         Some(name) if whole.ends_with(name.as_encoded_bytes()) => Ok(name),
         _ => Err("names a folder, and not a file to write"),

@@ -20,13 +20,37 @@ const SCRIPT: &str = "
     ls -A disk
 ";
 
-#[test]
-fn a_full_disk_leaves_nothing() {
-    let folder = Folder::new("disk_full");
+/// A volume with a file of 200,000 bytes, inode 7, and one of 100, inode 8.
+fn folder(name: &str) -> Folder {
+    let folder = Folder::new(name);
     let payload = vec![b'x'; 200_000];
     let large = file(8, 7, 200_000, &[Extent::once(0, 97, 200_000, 0)]);
     let small = file(9, 8, 100, &[Extent::once(0, 97, 100, 0)]);
     folder.put("v", &[header(0), data(7, &payload), large, small].concat());
+    folder
+}
+
+#[test]
+fn a_file_longer_than_allowed_leaves_nothing() {
+    let folder = folder("disk_limit");
+    folder.put("out", b"as it was");
+    let line = "ulimit -f 16 && exec \"$0\" extract v --inode 7 -o out";
+    let mut command = Command::new("sh");
+    command.args(["-c", line, env!("CARGO_BIN_EXE_hdrfs")]);
+    let output = command.current_dir(&folder.0).output().unwrap();
+    assert_eq!(output.status.code(), Some(2));
+    let said = String::from_utf8_lossy(&output.stderr);
+    assert!(
+        said.starts_with("out: cannot be written: File too large"),
+        "{said}"
+    );
+    assert_eq!(folder.read("out"), b"as it was");
+    assert_eq!(folder.names(), ["out", "v"]);
+}
+
+#[test]
+fn a_full_disk_leaves_nothing() {
+    let folder = folder("disk_full");
     std::fs::create_dir(folder.0.join("disk")).unwrap();
     for own_users in [false, true] {
         let mut command = Command::new("unshare");

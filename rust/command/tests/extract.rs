@@ -249,7 +249,7 @@ fn nothing_is_written_on_wrong_use() {
     );
     assert_eq!(folder.read("v1").len(), 93 + 75 + 57);
     let answer = folder.run_words(["extract", "v0", "v1", "--inode", "7", "-o", ""]);
-    assert_eq!((answer.status, answer.out.as_str()), (2, ""));
+    answer.is(2, "", "hdrfs: the name of the file to write is empty\n");
 }
 
 #[test]
