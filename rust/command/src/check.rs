@@ -31,7 +31,7 @@ impl Request for Check {
 
     fn run(&self, json: bool) -> Result<Status, Failure> {
         let files = input::volumes(&self.files)?;
-        let progress = Progress::new("DONE of ALL volumes checked", files.len() as u64);
+        let progress = Progress::new("volume", "checked", files.len() as u64);
         let mut report = Report::new(json);
         let ended = check_each(&files, self.jobs, |_, verdict| {
             progress.add(1);

@@ -94,7 +94,9 @@ impl Extract {
         let mode = file.current().mode.into();
         let temporary = Temporary::beside(target, mode).map_err(unwritten)?;
         set_len(&temporary.file, file.size()).map_err(unwritten)?;
-        let stored = copy(file, progress(file), |chunk| match chunk {
+        // It stays to the end, since it may take long until all is on the disk.
+        let progress = progress(file);
+        let stored = copy(file, Some(&progress), |chunk| match chunk {
             // The file is all hole at first.
             Chunk::Hole { .. } => Ok(()),
             Chunk::Bytes { start, bytes } => temporary
@@ -120,7 +122,7 @@ fn to_output(file: &ArchiveFile) -> Result<u64, Failure> {
     let zeros = [0; 1 << 16];
     // On a terminal the content itself shows how far it is.
     let progress = (!out.is_terminal()).then(|| progress(file));
-    let stored = copy(file, progress, |chunk| match chunk {
+    let stored = copy(file, progress.as_ref(), |chunk| match chunk {
         Chunk::Hole { len, .. } => write_hole(&mut out, &zeros, len).map_err(Failure::Output),
         Chunk::Bytes { bytes, .. } => out.write_all(bytes).map_err(Failure::Output),
     })?;
@@ -139,16 +141,15 @@ fn write_hole(out: &mut impl Write, zeros: &[u8], len: u64) -> io::Result<()> {
 }
 
 fn progress(file: &ArchiveFile) -> Progress {
-    Progress::new("DONE of ALL bytes written", file.size())
+    Progress::new("byte", "written", file.size())
 }
 
 /// Hands on all of a file in rising order, and answers how many of its bytes are stored.
 fn copy(
     file: &ArchiveFile,
-    progress: impl Into<Option<Progress>>,
+    progress: Option<&Progress>,
     mut put: impl FnMut(Chunk) -> Result<(), Failure>,
 ) -> Result<u64, Failure> {
-    let progress = progress.into();
     let mut stored = 0;
     let mut chunks = file.chunks();
     while let Some(chunk) = chunks.next()? {
@@ -160,7 +161,7 @@ fn copy(
                 bytes.len() as u64
             }
         };
-        if let Some(progress) = &progress {
+        if let Some(progress) = progress {
             progress.add(len);
         }
     }

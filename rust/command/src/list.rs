@@ -10,6 +10,7 @@ use crate::input;
 use crate::json::Object;
 use crate::long;
 use crate::output::Lines;
+use crate::progress::Progress;
 use crate::text::hex;
 use crate::words::Words;
 
@@ -33,7 +34,10 @@ impl Request for List {
             let why = format!("list takes one volume, and here are {}", volumes.len());
             return Err(Failure::Usage(why));
         };
+        // It may come slowly, through a pipe.
+        let progress = Progress::new("volume", "read", 1);
         let volume = input::read(path)?;
+        drop(progress);
         self.list(path, &volume, json)
     }
 }

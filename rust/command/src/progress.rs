@@ -12,6 +12,7 @@ use std::thread::{self, JoinHandle};
 use std::time::Duration;
 
 use crate::system;
+use crate::text::count;
 
 /// How long nothing is shown, and how long a line stands before it is renewed.
 const FIRST: Duration = Duration::from_secs(1);
@@ -26,8 +27,9 @@ pub struct Progress {
 struct Shared {
     done: AtomicU64,
     all: u64,
-    /// What is counted, with `DONE` and `ALL` in it.
-    what: &'static str,
+    /// What is counted, and what is done to it.
+    thing: &'static str,
+    deed: &'static str,
     line: Mutex<Line>,
     ended: Condvar,
 }
@@ -39,12 +41,13 @@ struct Line {
 }
 
 impl Progress {
-    /// Begins to count to `all`. In `what` the words `DONE` and `ALL` stand for the numbers.
-    pub fn new(what: &'static str, all: u64) -> Progress {
+    /// Begins to count to `all`: `1 of 2 volumes read` with the thing `volume` and the deed `read`.
+    pub fn new(thing: &'static str, deed: &'static str, all: u64) -> Progress {
         let shared = Arc::new(Shared {
             done: AtomicU64::new(0),
             all,
-            what,
+            thing,
+            deed,
             line: Mutex::default(),
             ended: Condvar::new(),
         });
@@ -106,8 +109,7 @@ impl Shared {
 
     fn words(&self) -> String {
         let done = self.done.load(Ordering::Relaxed).min(self.all);
-        let words = self.what.replace("DONE", &done.to_string());
-        words.replace("ALL", &self.all.to_string())
+        format!("{done} of {} {}", count(self.all, self.thing), self.deed)
     }
 }
 

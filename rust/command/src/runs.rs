@@ -1,5 +1,6 @@
 //! `hdrfs runs`: where the bytes of a file are stored.
 
+use std::io::{self, IsTerminal};
 use std::num::NonZeroUsize;
 use std::path::PathBuf;
 
@@ -10,6 +11,7 @@ use crate::failure::{Failure, Status};
 use crate::input;
 use crate::json::Object;
 use crate::output::Lines;
+use crate::progress::Progress;
 use crate::set;
 use crate::words::Words;
 
@@ -42,6 +44,10 @@ impl Request for Runs {
         if !json {
             lines.put("start length kind volume offset\n")?;
         }
+        // On a terminal the lines themselves show how far it is.
+        let all = self.to.min(file.size()).saturating_sub(self.from);
+        let progress =
+            (!io::stdout().is_terminal()).then(|| Progress::new("position", "done", all));
         for run in file.runs(Logical(self.from), Logical(self.to)) {
             let run = run.map_err(|refusal| ArchiveError::Refused {
                 path: file.path().to_path_buf(),
@@ -49,6 +55,9 @@ impl Request for Runs {
                 blocks: None,
             })?;
             lines.put(&line(&run, json))?;
+            if let Some(progress) = &progress {
+                progress.add(run.len);
+            }
         }
         lines.flush()?;
         Ok(Status::Accepted)

@@ -13,7 +13,7 @@ use crate::progress::Progress;
 /// Checks all volumes and takes them together. The first that is refused, cannot be read or does not
 /// belong to the others ends it.
 pub fn open(files: &[PathBuf], jobs: NonZeroUsize) -> Result<Archive, Failure> {
-    let progress = Progress::new("DONE of ALL volumes read", files.len() as u64);
+    let progress = Progress::new("volume", "read", files.len() as u64);
     let mut archive = Archive::new();
     let ended = check_each(files, jobs, |_, checked| {
         progress.add(1);

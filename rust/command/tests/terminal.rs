@@ -23,6 +23,16 @@ fn slow() -> Vec<u8> {
     [header(1), table(&[]), file(8, 7, 3, &[extent])].concat()
 }
 
+/// A volume with a file of so many single bytes that nobody will see the end of it.
+fn endless() -> Vec<u8> {
+    let copies = Extent {
+        multiplicity: REPEATED,
+        count: 1 << 40,
+        ..Extent::once(0, 97, 1, 0)
+    };
+    [small_volume(), file(8, 7, 1 << 40, &[copies])].concat()
+}
+
 /// Runs a command with standard error, and perhaps standard output, on a terminal of this kind.
 fn start(folder: &Folder, line: &str, kind: &str, both: bool) -> (Child, Terminal) {
     let (terminal, far) = Terminal::open();
@@ -103,15 +113,7 @@ fn an_extract_that_takes_long_shows_how_far_it_is() {
 #[test]
 fn a_long_file_shows_how_much_is_written() {
     let folder = folder("terminal_long");
-    let copies = Extent {
-        multiplicity: REPEATED,
-        count: 1 << 40,
-        ..Extent::once(0, 97, 1, 0)
-    };
-    folder.put(
-        "v",
-        &[small_volume(), file(8, 7, 1 << 40, &[copies])].concat(),
-    );
+    folder.put("v", &endless());
     let line = "extract v --inode 7 -o -";
     let (mut child, mut terminal) = start(&folder, line, "xterm", false);
     terminal.wait_for(" of 1099511627776 bytes written\x1b[K");
@@ -130,4 +132,29 @@ fn content_on_a_terminal_is_alone() {
     assert!(child.wait().unwrap().success());
     let seen = terminal.read_to_end();
     assert!(seen.ends_with("\r\x1b[K1,5"), "{seen:?}");
+}
+
+#[test]
+fn a_volume_that_comes_slowly_is_listed() {
+    let folder = folder("terminal_list");
+    let (mut child, mut terminal) = start(&folder, "list slow", "xterm", true);
+    terminal.wait_for("\r0 of 1 volume read\x1b[K");
+    folder.feed("slow", &mut child, &slow());
+    assert!(child.wait().unwrap().success());
+    let seen = terminal.read_to_end();
+    assert!(
+        seen.contains("\r\x1b[Koffset id length\r\n80 8 13\r\n"),
+        "{seen:?}"
+    );
+}
+
+/// Runs that nobody will see the end of, into a file.
+#[test]
+fn many_runs_show_how_far_they_are() {
+    let folder = folder("terminal_runs");
+    folder.put("v", &endless());
+    let (mut child, mut terminal) = start(&folder, "runs v --inode 7", "xterm", false);
+    terminal.wait_for(" of 1099511627776 positions done\x1b[K");
+    send(&child, "TERM");
+    child.wait().unwrap();
 }
