@@ -1,9 +1,11 @@
 //! `hdrfs inodes`: the current state of every inode.
 
+use std::collections::BTreeSet;
+use std::fmt::{Display, Write};
 use std::num::NonZeroUsize;
 use std::path::PathBuf;
 
-use hdrfs::{Archive, CurrentInode};
+use hdrfs::{Archive, CurrentInode, FileType};
 
 use crate::commands::Request;
 use crate::failure::{Failure, Status};
@@ -62,52 +64,76 @@ fn objects(archive: &Archive, lines: &mut Lines) -> Result<(), Failure> {
     Ok(())
 }
 
-const HEADING: [&str; 10] = [
-    "inode", "type", "size", "volume", "offset", "time", "mtime", "ctime", "btime", "atime",
+/// The columns, the type aside.
+const NUMBERS: [&str; 9] = [
+    "inode", "size", "volume", "offset", "time", "mtime", "ctime", "btime", "atime",
 ];
 
-fn cells(inode: &CurrentInode) -> [String; 10] {
-    let number = |number: u64| number.to_string();
+fn numbers(inode: &CurrentInode) -> [u64; 9] {
     [
-        number(inode.number),
-        inode.file_type().to_string(),
-        number(inode.size),
-        number(inode.volume),
-        number(inode.offset),
-        number(inode.time),
-        number(inode.mtime),
-        number(inode.ctime),
-        number(inode.btime),
-        number(inode.atime),
+        inode.number,
+        inode.size,
+        inode.volume,
+        inode.offset,
+        inode.time,
+        inode.mtime,
+        inode.ctime,
+        inode.btime,
+        inode.atime,
     ]
 }
 
-/// Prints columns as wide as what stands in them. They are gone through twice, so that the lines of
-/// a large archive need not be kept.
+/// Prints columns as wide as what stands in them. The inodes are gone through twice, so that the
+/// lines of a large archive need not be kept.
 fn table(archive: &Archive, lines: &mut Lines) -> Result<(), Failure> {
-    let mut widths = HEADING.map(str::len);
+    let (mut most, mut types) = ([0; 9], BTreeSet::new());
     for inode in archive.inodes() {
-        for (width, cell) in widths.iter_mut().zip(cells(&inode)) {
-            *width = cell.len().max(*width);
+        for (most, number) in most.iter_mut().zip(numbers(&inode)) {
+            *most = number.max(*most);
         }
+        types.insert(inode.file_type());
     }
-    lines.put(&row(&HEADING.map(str::to_string), &widths, "link"))?;
+    let widths = Widths::new(most, types);
+    lines.put(&widths.row(NUMBERS, "type", "link"))?;
     for inode in archive.inodes() {
         let link = if inode.unlinked { "taken away" } else { "" };
-        lines.put(&row(&cells(&inode), &widths, link))?;
+        lines.put(&widths.row(numbers(&inode), inode.file_type(), link))?;
     }
     let all = archive.inodes().len() as u64;
     lines.put(&format!("{}\n", count(all, "inode")))
 }
 
-/// A line with numbers to the right and the type to the left of their columns.
-fn row(cells: &[String; 10], widths: &[usize; 10], last: &str) -> String {
-    let mut line = String::new();
-    for (place, (cell, width)) in cells.iter().zip(widths).enumerate() {
-        line += &match place {
-            1 => format!("{cell:<width$}  "),
-            _ => format!("{cell:>width$}  "),
-        };
+/// How wide the columns are.
+struct Widths {
+    numbers: [usize; 9],
+    kind: usize,
+}
+
+impl Widths {
+    fn new(most: [u64; 9], types: BTreeSet<FileType>) -> Widths {
+        let mut numbers = NUMBERS.map(str::len);
+        for (width, most) in numbers.iter_mut().zip(most) {
+            *width = most.to_string().len().max(*width);
+        }
+        let types = types.iter().map(|kind| kind.to_string().len());
+        let kind = types.fold("type".len(), usize::max);
+        Widths { numbers, kind }
     }
-    format!("{}\n", (line + last).trim_end())
+
+    /// A line with numbers to the right of their columns, and the type, in the second, to the left.
+    fn row<T: Display>(&self, numbers: [T; 9], kind: impl ToString, last: &str) -> String {
+        let mut line = String::new();
+        for (place, (number, width)) in numbers.iter().zip(self.numbers).enumerate() {
+            // To write into a text does not fail.
+            let _ = write!(line, "{number:>width$}  ");
+            if place == 0 {
+                let (kind, width) = (kind.to_string(), self.kind);
+                let _ = write!(line, "{kind:<width$}  ");
+            }
+        }
+        line += last;
+        line.truncate(line.trim_end().len());
+        line.push('\n');
+        line
+    }
 }

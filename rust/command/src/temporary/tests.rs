@@ -62,6 +62,14 @@ fn what_takes_the_name_meanwhile_stays() {
         assert!(temporary.place(&target).is_err());
         assert_eq!(names(&folder), ["out"]);
         assert_eq!(fs::read(folder.join("out")).unwrap(), b"another's");
+        // The same where a file was there before, and is not that one any more.
+        let target = self::target(&folder);
+        let temporary = make(&target.path, 0o600).unwrap();
+        fs::write(folder.join("new"), b"a third").unwrap();
+        fs::rename(folder.join("new"), folder.join("out")).unwrap();
+        assert!(temporary.place(&target).is_err());
+        assert_eq!(names(&folder), ["out"]);
+        assert_eq!(fs::read(folder.join("out")).unwrap(), b"a third");
         fs::remove_file(folder.join("out")).unwrap();
     }
     fs::remove_dir(folder).unwrap();
