@@ -34,8 +34,8 @@ fn endless() -> Vec<u8> {
 }
 
 /// Runs a command with standard error, and perhaps standard output, on a terminal of this kind.
-fn start(folder: &Folder, line: &str, kind: &str, both: bool) -> (Child, Terminal) {
-    let (terminal, far) = Terminal::open();
+fn start(folder: &Folder, line: &str, kind: &str, both: bool) -> Option<(Child, Terminal)> {
+    let (terminal, far) = Terminal::open()?;
     // A test that waits for what never comes has to end too.
     let mut command = Command::new("timeout");
     command.args(["--foreground", "120", env!("CARGO_BIN_EXE_hdrfs")]);
@@ -45,14 +45,16 @@ fn start(folder: &Folder, line: &str, kind: &str, both: bool) -> (Child, Termina
         true => command.stdout(far.try_clone().unwrap()),
         false => command.stdout(Stdio::null()),
     };
-    (command.stderr(far).spawn().unwrap(), terminal)
+    Some((command.stderr(far).spawn().unwrap(), terminal))
 }
 
 #[test]
 fn a_check_that_takes_long_shows_how_far_it_is() {
     let folder = folder("terminal_check");
     let line = "check v0 slow -j 1";
-    let (mut child, mut terminal) = start(&folder, line, "xterm", true);
+    let Some((mut child, mut terminal)) = start(&folder, line, "xterm", true) else {
+        return;
+    };
     terminal.wait_for("\r1 of 2 volumes checked\x1b[K");
     folder.feed("slow", &mut child, &slow());
     assert!(child.wait().unwrap().success());
@@ -75,7 +77,9 @@ fn a_dumb_terminal_gets_no_codes() {
     for kind in ["dumb", ""] {
         let folder = folder(&format!("terminal_dumb{kind}"));
         let line = "check v0 slow -j 1";
-        let (mut child, mut terminal) = start(&folder, line, kind, true);
+        let Some((mut child, mut terminal)) = start(&folder, line, kind, true) else {
+            return;
+        };
         terminal.wait_for("v0: accepted");
         folder.feed("slow", &mut child, &slow());
         assert!(child.wait().unwrap().success());
@@ -88,7 +92,9 @@ fn a_dumb_terminal_gets_no_codes() {
 #[test]
 fn a_short_check_shows_nothing_but_its_answer() {
     let folder = folder("terminal_short");
-    let (mut child, terminal) = start(&folder, "check v0", "xterm", false);
+    let Some((mut child, terminal)) = start(&folder, "check v0", "xterm", false) else {
+        return;
+    };
     assert!(child.wait().unwrap().success());
     let seen = terminal.read_to_end();
     // A machine that is busy may take longer than a second all the same.
@@ -99,7 +105,9 @@ fn a_short_check_shows_nothing_but_its_answer() {
 fn an_extract_that_takes_long_shows_how_far_it_is() {
     let folder = folder("terminal_extract");
     let line = "extract v0 slow --inode 7 -o out -j 1";
-    let (mut child, mut terminal) = start(&folder, line, "xterm", true);
+    let Some((mut child, mut terminal)) = start(&folder, line, "xterm", true) else {
+        return;
+    };
     terminal.wait_for("\r1 of 2 volumes read\x1b[K");
     folder.feed("slow", &mut child, &slow());
     assert!(child.wait().unwrap().success());
@@ -115,7 +123,9 @@ fn a_long_file_shows_how_much_is_written() {
     let folder = folder("terminal_long");
     folder.put("v", &endless());
     let line = "extract v --inode 7 -o -";
-    let (mut child, mut terminal) = start(&folder, line, "xterm", false);
+    let Some((mut child, mut terminal)) = start(&folder, line, "xterm", false) else {
+        return;
+    };
     terminal.wait_for(" of 1099511627776 bytes written\x1b[K");
     send(&child, "TERM");
     child.wait().unwrap();
@@ -126,7 +136,9 @@ fn a_long_file_shows_how_much_is_written() {
 fn content_on_a_terminal_is_alone() {
     let folder = folder("terminal_content");
     let line = "extract v0 slow --inode 7 -o - -j 1";
-    let (mut child, mut terminal) = start(&folder, line, "xterm", true);
+    let Some((mut child, mut terminal)) = start(&folder, line, "xterm", true) else {
+        return;
+    };
     terminal.wait_for("\r1 of 2 volumes read\x1b[K");
     folder.feed("slow", &mut child, &slow());
     assert!(child.wait().unwrap().success());
@@ -137,7 +149,9 @@ fn content_on_a_terminal_is_alone() {
 #[test]
 fn a_volume_that_comes_slowly_is_listed() {
     let folder = folder("terminal_list");
-    let (mut child, mut terminal) = start(&folder, "list slow", "xterm", true);
+    let Some((mut child, mut terminal)) = start(&folder, "list slow", "xterm", true) else {
+        return;
+    };
     terminal.wait_for("\r0 of 1 volume read\x1b[K");
     folder.feed("slow", &mut child, &slow());
     assert!(child.wait().unwrap().success());
@@ -153,7 +167,9 @@ fn a_volume_that_comes_slowly_is_listed() {
 fn many_runs_show_how_far_they_are() {
     let folder = folder("terminal_runs");
     folder.put("v", &endless());
-    let (mut child, mut terminal) = start(&folder, "runs v --inode 7", "xterm", false);
+    let Some((mut child, mut terminal)) = start(&folder, "runs v --inode 7", "xterm", false) else {
+        return;
+    };
     terminal.wait_for(" of 1099511627776 positions done\x1b[K");
     send(&child, "TERM");
     child.wait().unwrap();

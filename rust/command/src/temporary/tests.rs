@@ -102,8 +102,8 @@ fn an_interrupt_removes_a_file_with_a_name() {
             assert_eq!(child.try_wait().unwrap(), None, "it ended early");
             thread::sleep(Duration::from_millis(5));
         }
-        let id = child.id().to_string();
-        let sent = Command::new("kill").args(["-s", name, &id]).status();
+        let line = format!("kill -s {name} {}", child.id());
+        let sent = Command::new("sh").args(["-c", &line]).status();
         assert!(sent.unwrap().success());
         assert_eq!(child.wait().unwrap().signal(), Some(number), "{name}");
         assert_eq!(names(&folder), Vec::<String>::new(), "{name}");

@@ -23,7 +23,7 @@ pub fn interrupts() -> Vec<(&'static str, u32)> {
 }
 
 pub fn send(child: &Child, name: &str) {
-    let number = child.id().to_string();
-    let sent = Command::new("kill").args(["-s", name, &number]).status();
+    let line = format!("kill -s {name} {}", child.id());
+    let sent = Command::new("sh").args(["-c", &line]).status();
     assert!(sent.unwrap().success());
 }

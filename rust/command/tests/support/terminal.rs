@@ -4,7 +4,7 @@
 use std::ffi::{c_char, c_int, CStr, OsStr};
 use std::fs::File;
 use std::io::Read;
-use std::os::fd::{AsRawFd, FromRawFd};
+use std::os::fd::FromRawFd;
 use std::os::unix::ffi::OsStrExt;
 
 const O_RDWR: c_int = 2;
@@ -24,24 +24,26 @@ pub struct Terminal {
 }
 
 impl Terminal {
-    /// A terminal, and the end of it that a command writes to.
-    pub fn open() -> (Terminal, File) {
+    /// A terminal, and the end of it that a command writes to, where the machine has one.
+    pub fn open() -> Option<(Terminal, File)> {
         let mut name = [0; 128];
         // SAFETY: the calls get a descriptor that is open and a buffer with its length.
         let own = unsafe {
             let fd = posix_openpt(O_RDWR | O_NOCTTY);
-            assert!(fd >= 0, "no terminal is to be had");
+            if fd < 0 {
+                eprintln!("skipped: this machine has no terminal for the tests");
+                return None;
+            }
             let made = grantpt(fd) | unlockpt(fd) | ptsname_r(fd, name.as_mut_ptr(), name.len());
             assert_eq!(made, 0);
             File::from_raw_fd(fd)
         };
-        assert!(own.as_raw_fd() >= 0);
         // SAFETY: the call above has written a text with its end.
         let name = unsafe { CStr::from_ptr(name.as_ptr()) };
         let path = OsStr::from_bytes(name.to_bytes());
         let far = File::options().write(true).open(path).unwrap();
         let seen = String::new();
-        (Terminal { own, seen }, far)
+        Some((Terminal { own, seen }, far))
     }
 
     /// Reads until a text has been seen.
