@@ -1,6 +1,6 @@
 //! The bytes of a file in large pieces, with holes as such.
 
-use super::content::Content;
+use super::content::{Content, Holes};
 use super::ArchiveError;
 use crate::Logical;
 
@@ -82,23 +82,14 @@ impl<'a> Chunks<'a> {
     #[allow(clippy::should_implement_trait)] // An iterator cannot lend what it has.
     pub fn next(&mut self) -> Result<Option<Chunk<'_>>, ArchiveError> {
         let start = Logical(self.position);
-        let mut len = 0;
-        while len < CHUNK_LEN {
-            let Some(run) = self.content.run(self.position)? else {
-                break;
-            };
-            if run.stored.is_none() {
-                if len > 0 {
-                    break;
-                }
-                self.position = run.end().0;
-                let len = run.len;
-                return Ok(Some(Chunk::Hole { start, len }));
-            }
-            let more = self.content.read_run(&run, &mut self.buffer[len..])?;
-            len += more;
-            self.position += more as u64;
+        let len = self.content.hole(start.0)?;
+        if len > 0 {
+            self.position += len;
+            return Ok(Some(Chunk::Hole { start, len }));
         }
+        let buf = &mut self.buffer;
+        let len = self.content.read(start.0, buf, Holes::Stop)?;
+        self.position += len as u64;
         let bytes = &self.buffer[..len];
         Ok((len > 0).then_some(Chunk::Bytes { start, bytes }))
     }

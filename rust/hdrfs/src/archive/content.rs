@@ -6,7 +6,7 @@ use super::store::Parts;
 use super::ArchiveError;
 use crate::pace::Pace;
 use crate::walk::RUN_LEN;
-use crate::{sys, File, Logical, Physical, Refusal, Run, Stored};
+use crate::{sys, File, Physical, Refusal, Stored};
 
 /// How many runs there is room for: those of any file that repeats no block, so that such a file
 /// is asked for once; and then so many that the check of the file, which comes with every question,
@@ -39,29 +39,19 @@ impl<'a> Pieces<'a> {
         }
     }
 
-    /// The run at a position, from there on. Nothing at and after the end of the file.
-    #[inline]
-    pub(super) fn at(&mut self, position: u64) -> Result<Option<Run>, Refusal> {
+    /// The runs that are held, from the one at a position on: none at and after the end of the file,
+    /// else at least one.
+    fn rows(&mut self, position: u64) -> Result<&[[u64; RUN_LEN]], Refusal> {
         if self.size <= position {
-            return Ok(None);
+            return Ok(&[]);
         }
         if !self.follows(position) && !self.find(position) {
             self.ask(position)?;
         }
-        let [start, len, kind, volume, offset] = self.rows[self.seen];
-        let before = position - start;
-        Ok(Some(Run {
-            start: Logical(position),
-            len: len - before,
-            stored: (kind == sys::STORED).then_some(Stored {
-                volume,
-                offset: Physical(offset + before),
-            }),
-        }))
+        Ok(&self.rows[self.seen..self.count])
     }
 
     /// Looks for the run at a position where it most often is: at the last place or the next one.
-    #[inline]
     fn follows(&mut self, position: u64) -> bool {
         let has = |row: &[u64; RUN_LEN]| row[0] <= position && position - row[0] < row[1];
         let rows = &self.rows[..self.count];
@@ -129,6 +119,13 @@ pub(super) struct Content<'a> {
     path: &'a Path,
 }
 
+/// Whether a hole is read as zeros, or not read.
+#[derive(Clone, Copy, Debug, PartialEq, Eq)]
+pub(super) enum Holes {
+    Zeros,
+    Stop,
+}
+
 impl<'a> Content<'a> {
     pub(super) fn new(pieces: Pieces<'a>, parts: Parts<'a>, path: &'a Path) -> Content<'a> {
         Content {
@@ -138,23 +135,28 @@ impl<'a> Content<'a> {
         }
     }
 
-    /// The run at a position, from there on.
-    pub(super) fn run(&mut self, position: u64) -> Result<Option<Run>, ArchiveError> {
-        self.pieces
-            .at(position)
-            .map_err(|refusal| ArchiveError::Refused {
-                path: self.path.to_path_buf(),
-                refusal,
-                blocks: None,
-            })
+    /// How many positions from one on are known to be a hole; 0 where a byte is stored, and at the
+    /// end of the file.
+    pub(super) fn hole(&mut self, position: u64) -> Result<u64, ArchiveError> {
+        let rows = self.pieces.rows(position);
+        Ok(match rows.map_err(|refusal| refused(self.path, refusal))? {
+            [[start, len, kind, ..], ..] if *kind != sys::STORED => len - (position - start),
+            _ => 0,
+        })
     }
 
-    /// Fills the buffer from a position on, as far as the file goes and until something fails, and
-    /// answers how far. A failure is an error where there is nothing before it.
-    pub(super) fn read(&mut self, position: u64, buf: &mut [u8]) -> Result<usize, ArchiveError> {
+    /// Fills the buffer from a position on, as far as the file goes, up to a hole if it is to stop
+    /// there, and until something fails; answers how far. A failure is an error where there is
+    /// nothing before it.
+    pub(super) fn read(
+        &mut self,
+        position: u64,
+        buf: &mut [u8],
+        holes: Holes,
+    ) -> Result<usize, ArchiveError> {
         let mut done = 0;
         while done < buf.len() {
-            match self.read_from(position + done as u64, &mut buf[done..]) {
+            match self.read_rows(position + done as u64, &mut buf[done..], holes) {
                 Ok(0) => break,
                 Ok(len) => done += len,
                 Err(error) if done == 0 => return Err(error),
@@ -164,21 +166,49 @@ impl<'a> Content<'a> {
         Ok(done)
     }
 
-    /// Fills the buffer with what one run has from a position on, and answers how far.
-    fn read_from(&mut self, position: u64, buf: &mut [u8]) -> Result<usize, ArchiveError> {
-        match self.run(position)? {
-            Some(run) => self.read_run(&run, buf),
-            None => Ok(0),
+    /// Fills the buffer from the runs that are held.
+    fn read_rows(
+        &mut self,
+        position: u64,
+        buf: &mut [u8],
+        holes: Holes,
+    ) -> Result<usize, ArchiveError> {
+        let rows = self.pieces.rows(position);
+        let rows = rows.map_err(|refusal| refused(self.path, refusal))?;
+        let mut done = 0;
+        for [start, len, kind, volume, offset] in rows {
+            let before = position + done as u64 - start;
+            let room = &mut buf[done..];
+            let len = (len - before).min(room.len() as u64) as usize;
+            if *kind == sys::STORED {
+                let place = Stored {
+                    volume: *volume,
+                    offset: Physical(offset + before),
+                };
+                match self.parts.read(place, &mut room[..len]) {
+                    Err(error) if done == 0 => return Err(error),
+                    Err(_) => break,
+                    Ok(()) => (),
+                }
+            } else if holes == Holes::Stop {
+                break;
+            } else {
+                room[..len].fill(0);
+            }
+            done += len;
+            if done == buf.len() {
+                break;
+            }
         }
+        Ok(done)
     }
+}
 
-    /// Fills the buffer with the beginning of a run, and answers how far.
-    pub(super) fn read_run(&mut self, run: &Run, buf: &mut [u8]) -> Result<usize, ArchiveError> {
-        let len = run.len.min(buf.len() as u64) as usize;
-        match run.stored {
-            Some(place) => self.parts.read(place, &mut buf[..len])?,
-            None => buf[..len].fill(0),
-        }
-        Ok(len)
+fn refused(path: &Path, refusal: Refusal) -> ArchiveError {
+    let path = path.to_path_buf();
+    ArchiveError::Refused {
+        path,
+        refusal,
+        blocks: None,
     }
 }

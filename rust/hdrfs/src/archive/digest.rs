@@ -28,13 +28,14 @@ static KEY: LazyLock<Vec<[u64; 2]>> = LazyLock::new(|| {
 pub(super) fn digest(page: &[u8]) -> u128 {
     assert!(page.len() <= PAGE_LEN, "the key has no more words");
     let (pairs, rest) = page.as_chunks::<PAIR_LEN>();
-    let mut last = [0; PAIR_LEN];
-    last[..rest.len()].copy_from_slice(rest);
     let mut sum = 0u128;
-    // Behind the whole pairs, the rest is a pair that ends in zeros; where there is no rest, it may
-    // find no key, and adds nothing that depends on the page.
-    for (pair, key) in pairs.iter().chain([&last]).zip(KEY.iter()) {
+    for (pair, key) in pairs.iter().zip(KEY.iter()) {
         sum = sum.wrapping_add(product(pair, key));
+    }
+    if !rest.is_empty() {
+        let mut last = [0; PAIR_LEN];
+        last[..rest.len()].copy_from_slice(rest);
+        sum = sum.wrapping_add(product(&last, &KEY[pairs.len()]));
     }
     sum
 }

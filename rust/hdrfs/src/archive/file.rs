@@ -196,7 +196,8 @@ impl<'a> ArchiveFile<'a> {
     /// # Ok::<(), Box<dyn std::error::Error>>(())
     /// ```
     pub fn runs(&self, from: Logical, to: Logical) -> Runs<'_> {
-        self.file().runs(from, to)
+        // Where the range ends earlier, less has to be tried until its runs fit into the room.
+        self.file().runs(from, to.min(Logical(self.size())))
     }
 
     /// The runs of the whole file.
@@ -208,7 +209,7 @@ impl<'a> ArchiveFile<'a> {
     /// # Ok::<(), Box<dyn std::error::Error>>(())
     /// ```
     pub fn all_runs(&self) -> Runs<'_> {
-        self.file().all_runs()
+        self.runs(Logical(0), Logical(u64::MAX))
     }
 
     /// Its bytes, to be read and sought in; holes are zeros.

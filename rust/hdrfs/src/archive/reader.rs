@@ -2,7 +2,7 @@
 
 use std::io::{self, Read, Seek, SeekFrom};
 
-use super::content::Content;
+use super::content::{Content, Holes};
 
 /// The bytes of a regular file of an archive. Holes are zeros.
 ///
@@ -39,7 +39,7 @@ impl<'a> ArchiveReader<'a> {
 /// one call and the failure by the next.
 impl Read for ArchiveReader<'_> {
     fn read(&mut self, buf: &mut [u8]) -> io::Result<usize> {
-        let len = self.content.read(self.position, buf)?;
+        let len = self.content.read(self.position, buf, Holes::Zeros)?;
         self.position += len as u64;
         Ok(len)
     }
