@@ -23,8 +23,11 @@ use std::process::ExitCode;
 /// Rounds where nothing else is said.
 const ROUNDS: usize = 9;
 
+/// A part, which takes so many rounds.
+type Part = fn(usize);
+
 /// The parts, by name.
-const PARTS: [(&str, fn(usize)); 5] = [
+const PARTS: [(&str, Part); 5] = [
     ("checks", checks::run),
     ("files", files::run),
     ("sums", sums::run),

@@ -2,7 +2,7 @@
 
 use std::fmt;
 
-use crate::{sys, Bookmark, Inode, Link, Refusal};
+use crate::{sys, Bookmark, Inode, Link, LinkList, Refusal};
 
 /// A volume that is being written: a buffer, and the bookmark up to which it is written.
 ///
@@ -229,6 +229,20 @@ impl<'a> Writer<'a> {
         append_rename(time: u64, old: &str, new: &str) calls append_rename(
             time, old.as_bytes(), new.as_bytes()
         );
+
+        /// Appends a link table.
+        ///
+        /// ```
+        /// use hdrfs::{Link, LinkList};
+        ///
+        /// let mut buf = [0; 200];
+        /// let mut writer = hdrfs::Writer::create(&mut buf, &[1; 16], 1, &[2; 32])?;
+        /// let links = LinkList::new().push(Link { child: 8, parent: 1, name: "log" })?;
+        /// writer.append_links(&links)?;
+        /// assert_eq!(writer.bookmark().offset, 80 + 13 + 18 + 3);
+        /// # Ok::<(), hdrfs::Refusal>(())
+        /// ```
+        append_links(links: &LinkList) calls append_table(links.len() as u64, links.as_bytes());
 
         /// Appends a link table, of so many links; `links` has their bytes, as
         /// [`LinkTable::bytes`](crate::LinkTable::bytes) hands them out. A link is 8 bytes of

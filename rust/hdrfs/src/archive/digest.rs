@@ -55,7 +55,8 @@ mod tests {
     fn a_page_has_one_digest() {
         let page: Vec<u8> = (0..PAGE_LEN).map(|at| (at * 7 / 3) as u8).collect();
         for len in [0, 1, 15, 16, 17, 1000, PAGE_LEN - 1, PAGE_LEN] {
-            assert_eq!(digest(&page[..len]), digest(&page[..len].to_vec()));
+            let copy = page[..len].to_vec();
+            assert_eq!(digest(&page[..len]), digest(&copy));
         }
     }
 
