@@ -37,9 +37,11 @@ pub struct Lacking {
 pub struct Beyond {
     /// Which extent of the inode it is, from 0.
     pub index: usize,
+    /// The volume that it names.
     pub volume: u64,
-    /// Where its stored bytes end, and where the volume ends.
+    /// Where its stored bytes end.
     pub end: u64,
+    /// Where the volume ends.
     pub length: u64,
 }
 

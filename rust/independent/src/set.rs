@@ -101,16 +101,20 @@ pub struct LastLink<'a> {
     pub taken_away: bool,
     /// Whether it stands in a table.
     pub in_table: bool,
+    /// The folder that the name stands or stood in.
     pub parent: u64,
+    /// The name, as its bytes.
     pub name: &'a [u8],
 }
 
 /// The current inode block of an inode number.
 #[derive(Clone, Copy, Debug)]
 pub struct Inode<'a> {
-    /// The sequence number of the volume that has it, and its offset there.
+    /// The sequence number of the volume that has it.
     pub volume: u64,
+    /// Its offset there.
     pub offset: u64,
+    /// Its numbers.
     pub stat: Stat,
     /// Extents, a link target or nothing.
     pub variable: Part<'a>,

@@ -214,7 +214,7 @@ fn volumes_from_4096_on_are_out_of_reach() {
 }
 
 #[test]
-fn faults_of_sets() {
+fn foreign_and_double_volumes() {
     let (zero, one) = (volume_0(), volume_1());
     assert_eq!(set_faults(&[&zero, &one]), []);
     assert_eq!(set_faults(&[]), []);
@@ -234,8 +234,12 @@ fn faults_of_sets() {
     assert_eq!(set_faults(&[&one, &one]), [twice]);
     assert_eq!(set_faults(&[&one, &other]), [apart, twice]);
     assert!(Set::new(&[&one, &other]).is_err());
+}
 
-    // Beside a refused volume only the accepted ones are compared.
+/// Beside a refused volume only the accepted ones are compared.
+#[test]
+fn refused_volumes() {
+    let (zero, other) = (volume_0(), foreign(volume_1()));
     let mut broken = volume_0();
     broken[242] ^= 1;
     let refused = SetFault::Refused {
@@ -256,7 +260,7 @@ fn faults_of_sets() {
         offset: 0,
         blocks: 0,
     };
-    assert_eq!(set_faults(&[&one, &zero[..79]]), [cut]);
+    assert_eq!(set_faults(&[&other, &zero[..79]]), [cut]);
 }
 
 #[test]

@@ -6,6 +6,7 @@ mod expected;
 mod given;
 
 use std::fs::{self, Permissions};
+use std::io;
 use std::os::unix::fs::PermissionsExt;
 use std::path::Path;
 
@@ -202,15 +203,15 @@ fn to_file(
 ) -> Result<(), String> {
     let path = folder.join("out.bin");
     let out = path.to_str().expect("a path of text");
-    let number = number.to_string();
-    let ran = given.run("extract", &["--json", "--inode", &number, "-o", out]);
+    let options = ["--json", "--inode", &number.to_string(), "-o", out];
+    let ran = given.run("extract", &options);
     ran.ended(0)?;
-    let inode = &set.inodes()[&number.parse().expect("a number")];
+    let inode = &set.inodes()[&number];
     let runs = file.runs(0, u64::MAX);
     let stored = runs.iter().filter(|run| run[2] == 1).map(|run| run[1]);
     let fields = vec![
         ("file", expected::text(out)),
-        ("inode", expected::number(inode.stat.inode)),
+        ("inode", expected::number(number)),
         ("volume", expected::number(inode.volume)),
         ("offset", expected::number(inode.offset)),
         ("size", expected::number(file.size())),
@@ -218,20 +219,24 @@ fn to_file(
     ];
     has(&ran.object()?, &fields)?;
     nothing_else(folder, &["out.bin"])?;
-    let told = |error: std::io::Error| format!("{out}: {error}");
-    let mode = fs::metadata(&path).map_err(told)?.permissions().mode();
-    if mode & 0o777 & !u32::from(inode.stat.mode) != 0 {
-        return Err(format!(
-            "{out} has mode {mode:o}, its inode {:o}",
-            inode.stat.mode
-        ));
-    }
-    // The inode may allow nobody to read it.
-    fs::set_permissions(&path, Permissions::from_mode(0o600)).map_err(told)?;
-    let same = fs::read(&path).map_err(told)? == file.bytes(0, u64::MAX);
-    fs::remove_file(&path).map_err(told)?;
+    let bytes = taken(&path, inode.stat.mode).map_err(|error| format!("{out}: {error}"))?;
+    let same = bytes == file.bytes(0, u64::MAX);
     same.then_some(())
         .ok_or(format!("bytes of {number} differ"))
+}
+
+/// The bytes of a file, which is removed. It may give nobody more rights than its inode's mode.
+fn taken(path: &Path, mode: u16) -> io::Result<Vec<u8>> {
+    let given = fs::metadata(path)?.permissions().mode();
+    if given & 0o777 & !u32::from(mode) != 0 {
+        let told = format!("has mode {given:o}, its inode {mode:o}");
+        return Err(io::Error::other(told));
+    }
+    // The inode may allow nobody to read it.
+    fs::set_permissions(path, Permissions::from_mode(0o600))?;
+    let bytes = fs::read(path)?;
+    fs::remove_file(path)?;
+    Ok(bytes)
 }
 
 /// A refused file leaves what stands under the name that it would get.
