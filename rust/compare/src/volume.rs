@@ -1,7 +1,7 @@
 //! The check of a whole volume, and its header.
 
 use hdrfs::sys;
-use hdrfs::Volume;
+use hdrfs::{ArchiveError, Checker, Volume};
 use independent::Verdict;
 
 use crate::answers;
@@ -46,11 +46,33 @@ pub fn typed(volume: &[u8]) -> Result<(), Difference> {
     };
     let expected = independent::check(volume);
     same(checked, expected, || "Volume::check".into())?;
+    same(walked(volume), expected, || "Checker::bytes".into())?;
     let heading = Volume::header(volume)
         .map(|heading| (heading.sequence, bookmark(heading.next)))
         .map_err(|refusal| refusal.number);
     let expected = independent::read_header(volume).map(|header| (header.sequence, header.next));
     same(heading, expected, || "Volume::header".into())
+}
+
+/// What the walk says that an archive makes over its volumes.
+fn walked(volume: &[u8]) -> Verdict {
+    match Checker::new().bytes("", volume.to_vec()) {
+        Ok(member) => Verdict::Accepted {
+            sequence: member.sequence(),
+            blocks: member.block_count(),
+            end: bookmark(member.end()),
+        },
+        Err(ArchiveError::Refused {
+            refusal,
+            blocks: Some(blocks),
+            ..
+        }) => Verdict::Refused {
+            number: refusal.number,
+            offset: refusal.offset,
+            blocks,
+        },
+        Err(other) => unreachable!("{other}"),
+    }
 }
 
 /// A bookmark of the proved library in the type of the other.

@@ -1,14 +1,17 @@
 //! Reads and writes HDRFS volumes, the format in which water-level networks keep their yearly
 //! archives.
 //!
-//! All that is decided about bytes is decided in a proved library, which this crate links. Reading
-//! copies nothing: names, payloads and stored bytes are parts of the volumes that the caller lends.
+//! All that is decided about bytes is decided in a proved library, which this crate links. Reading a
+//! single volume copies nothing: names, payloads and stored bytes are parts of the volumes that the
+//! caller lends.
 //!
+//! - [`Archive`] is a set of volumes: it finds the current inodes, and reads their bytes.
 //! - [`Volume::check`] checks a whole volume, [`Volume::blocks`] walks its blocks; a [`LinkTable`]
 //!   is walked link by link.
 //! - [`File`] says where the bytes of a regular file are stored: at a position, or in runs.
 //! - [`fetch`] hands out stored bytes.
-//! - [`Writer`] writes a volume into a lent buffer, block by block.
+//! - [`Writer`] writes a volume into a lent buffer, block by block; [`Extents`] and [`LinkList`] put
+//!   together what an inode block and a link table have.
 //!
 //! A call that cannot do what it is asked answers a [`Refusal`], with a number, a place and plain
 //! words.
@@ -46,6 +49,7 @@ mod extents;
 mod fetch;
 mod file;
 mod file_type;
+mod inode;
 mod lengths;
 mod link_list;
 mod links;
@@ -62,12 +66,13 @@ pub use archive::{
     check_each, Archive, ArchiveError, ArchiveFile, ArchiveReader, Checker, Chunk, Chunks,
     CurrentInode, InodeBlock, Member, Missing, ShortExtent,
 };
-pub use blocks::{Block, Blocks, Content, Inode};
+pub use blocks::{Block, Blocks, Content};
 pub use bookmark::Bookmark;
 pub use extents::{Extent, ExtentIter, Extents, Multiplicity};
 pub use fetch::fetch;
 pub use file::{File, Logical, Physical, Place, Stored};
 pub use file_type::FileType;
+pub use inode::Inode;
 pub use lengths::Lengths;
 pub use link_list::LinkList;
 pub use links::{Link, LinkTable, Links};

@@ -394,6 +394,7 @@ on_a_position! {
 /// assert_eq!(out, [0, 3, 1, 0, 97, 3, 1, 0, 0, 0, 9]);
 /// # Ok::<(), std::io::Error>(())
 /// ```
+#[must_use]
 pub fn runs(
     volume: &[u8],
     offset: u64,

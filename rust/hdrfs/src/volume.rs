@@ -2,6 +2,7 @@
 
 use std::fmt;
 
+use crate::blocks::part;
 use crate::{sys, Blocks, Bookmark, File, Lengths, Refusal, Rejected};
 
 /// The most bytes that a volume may have. Whoever reads a file needs to read only one more to have
@@ -60,11 +61,10 @@ impl Volume {
     pub fn header(volume: &[u8]) -> Result<Heading, Refusal> {
         let answer = sys::header(volume);
         Refusal::unless_accepted(answer.refusal, 0)?;
-        let (id, previous) = header_parts(volume);
         Ok(Heading {
-            id,
+            id: header_part(volume, ID_AT),
             sequence: answer.sequence,
-            previous,
+            previous: header_part(volume, PREVIOUS_AT),
             next: Bookmark::from_numbers(answer.next, answer.due, 0, 0),
         })
     }
@@ -110,14 +110,15 @@ pub struct Heading {
     pub next: Bookmark,
 }
 
-/// The file system ID and the previous hash of an accepted header, at the places that its layout
-/// gives them.
-fn header_parts(volume: &[u8]) -> ([u8; 16], [u8; 32]) {
-    let mut id = [0; 16];
-    let mut previous = [0; 32];
-    id.copy_from_slice(&volume[18..34]);
-    previous.copy_from_slice(&volume[44..76]);
-    (id, previous)
+/// Where the file system ID and the previous hash stand in a header. The library does not say so
+/// yet: until it does, their places in the layout stand here, and nowhere else.
+const ID_AT: u64 = 18;
+const PREVIOUS_AT: u64 = 44;
+
+/// A part of an accepted header.
+fn header_part<const LEN: usize>(volume: &[u8], at: u64) -> [u8; LEN] {
+    let part = part(volume, at, LEN as u64);
+    part.try_into().expect("the part has this length")
 }
 
 /// A volume that was checked and accepted.

@@ -92,6 +92,8 @@ impl<'a> Pieces<'a> {
                     .had_room(to - position, to, self.count as u64, room);
                 return Ok(());
             }
+            // As many positions as there is room for runs always fit; nothing shorter would help.
+            assert!(room < to - position, "the runs of a short range fit");
             self.pace.had_no_room(to);
         }
     }

@@ -65,6 +65,7 @@ impl InodeBlock {
     /// assert_eq!(archive.block(8)?.inode().target(), Some("river.csv"));
     /// # Ok::<(), Box<dyn std::error::Error>>(())
     /// ```
+    #[must_use]
     pub fn inode(&self) -> Inode<'_> {
         let mark = Bookmark {
             offset: HEADER_LEN as u64,
@@ -140,6 +141,7 @@ impl<'a> ArchiveFile<'a> {
     /// assert_eq!(archive.file(7)?.inode().extents().len(), 4);
     /// # Ok::<(), Box<dyn std::error::Error>>(())
     /// ```
+    #[must_use]
     pub fn inode(&self) -> Inode<'_> {
         self.block.inode()
     }
@@ -195,6 +197,7 @@ impl<'a> ArchiveFile<'a> {
     /// assert_eq!(archive.file(7)?.runs(Logical(160), Logical(165)).count(), 3);
     /// # Ok::<(), Box<dyn std::error::Error>>(())
     /// ```
+    #[must_use]
     pub fn runs(&self, from: Logical, to: Logical) -> Runs<'_> {
         // Where the range ends earlier, less has to be tried until its runs fit into the room.
         self.file().runs(from, to.min(Logical(self.size())))
@@ -208,6 +211,7 @@ impl<'a> ArchiveFile<'a> {
     /// assert_eq!(archive.file(7)?.all_runs().count(), 12);
     /// # Ok::<(), Box<dyn std::error::Error>>(())
     /// ```
+    #[must_use]
     pub fn all_runs(&self) -> Runs<'_> {
         self.runs(Logical(0), Logical(u64::MAX))
     }

@@ -14,6 +14,7 @@ use super::{raw, Written};
 /// assert_eq!((written.refusal, written.next, written.due, written.timed), (0, 80, 1, 0));
 /// assert_eq!(hdrfs::sys::header(&buf).sequence, 3);
 /// ```
+#[must_use]
 pub fn write_header(buf: &mut [u8], id: &[u8], sequence: u64, previous: &[u8]) -> Written {
     // SAFETY: see above.
     unsafe {
@@ -34,6 +35,7 @@ pub fn write_header(buf: &mut [u8], id: &[u8], sequence: u64, previous: &[u8]) -
 macro_rules! appends {
     ($($(#[$doc:meta])* $name:ident calls $call:ident($($number:ident: $size:ty),*; $($part:ident),*);)*) => {$(
         $(#[$doc])*
+        #[must_use]
         #[allow(clippy::too_many_arguments)] // They are those of the header file.
         pub fn $name(
             buf: &mut [u8],
