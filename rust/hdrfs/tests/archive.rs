@@ -5,7 +5,7 @@ mod set;
 
 use std::io::Read;
 
-use hdrfs::{Archive, ArchiveError, Checker, FileType, Inode, Refusal};
+use hdrfs::{Archive, ArchiveError, Checker, FileType, Inode, Physical, Refusal};
 use set::{once, volume, volume_of, Folder, ID};
 
 /// The content of a file.
@@ -297,9 +297,49 @@ fn what_is_missing_is_told_apart() {
         .collect();
     assert_eq!(short, [(3, 0, volumes[0].len() as u64), (6, 1, 93)]);
     let line = error.to_string();
-    assert!(line.contains("volume 5 is needed"), "{line}");
+    assert!(
+        line.contains("volumes 2, 5 are needed and were not given; extent 3"),
+        "{line}"
+    );
     assert!(
         line.contains("extent 6 at 97 of volume 1 reaches beyond its 93 bytes"),
         "{line}"
     );
+}
+
+#[test]
+fn a_long_list_of_what_is_missing_is_cut() {
+    let extents: Vec<_> = (0..20)
+        .map(|number| once(100 - number, Physical(97), 1, number))
+        .collect();
+    let archive = in_memory(&[volume(0, |draft| draft.file(7, 10, &extents))]).unwrap();
+    let line = archive.file(7).unwrap_err().to_string();
+    assert_eq!(
+        line,
+        "inode 7: volumes 81, 82, 83, 84, 85, 86, 87, 88 and 12 more are needed and were not given"
+    );
+    let one = in_memory(&[volume(0, |draft| draft.file(7, 10, &extents[..1]))]).unwrap();
+    let line = one.file(7).unwrap_err().to_string();
+    assert_eq!(line, "inode 7: volume 100 is needed and was not given");
+}
+
+#[test]
+fn a_volume_above_4095_has_inodes_and_no_files() {
+    let volumes = [
+        volume(0, |draft| draft.data(b"1,5")),
+        volume(4096, |draft| {
+            let place = draft.data(b"1,5");
+            draft.file(7, 3, &[once(0, place, 3, 0)]);
+            draft.file(8, 3, &[once(4096, place, 3, 0)])
+        }),
+    ];
+    let archive = in_memory(&volumes).unwrap();
+    assert_eq!(archive.inode(7).unwrap().volume, 4096);
+    let line = archive.file(8).unwrap_err().to_string();
+    let place = 80 + 13 + 17;
+    let expected = format!(
+        "inode 8: extent 0 at {place} of volume 4096 names a volume above 4095, which no file can \
+         be stored in"
+    );
+    assert_eq!(line, expected);
 }

@@ -30,12 +30,12 @@ const ROOM_FOR_INODES: usize = 300_000;
 pub fn run(rounds: usize) {
     let folder = Folder::new().expect("there is a place for 640 MiB");
     let paths: Vec<PathBuf> = (0..VOLUMES).map(|at| write(&folder.0, at)).collect();
-    let mut buffer = Vec::new();
+    let [mut one, mut two] = [(); 2].map(|()| Vec::new());
     let [read, check, open] = timing::best(
         rounds,
         [
-            &mut || paths.iter().for_each(|path| read_file(path, &mut buffer)),
-            &mut || paths.iter().for_each(read_and_check),
+            &mut || paths.iter().for_each(|path| read_file(path, &mut one)),
+            &mut || paths.iter().for_each(|path| read_and_check(path, &mut two)),
             &mut || use_up(Archive::open(&paths).expect("a sound archive")),
         ],
     );
@@ -107,9 +107,9 @@ fn read_file(path: &PathBuf, buffer: &mut Vec<u8>) {
     file.read_to_end(buffer).expect("a volume can be read");
 }
 
-fn read_and_check(path: &PathBuf) {
-    let bytes = fs::read(path).expect("a volume can be read");
-    assert_eq!(sys::check(black_box(&bytes)).refusal, 0);
+fn read_and_check(path: &PathBuf, buffer: &mut Vec<u8>) {
+    read_file(path, buffer);
+    assert_eq!(sys::check(black_box(buffer)).refusal, 0);
 }
 
 fn take_out(paths: &[PathBuf], number: u64, len: u64) {

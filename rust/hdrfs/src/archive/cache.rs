@@ -66,3 +66,50 @@ impl Cache {
         self.held.lock().unwrap_or_else(PoisonError::into_inner)
     }
 }
+
+#[cfg(test)]
+mod tests {
+    use super::*;
+
+    /// Asks for a page, and answers whether it had to be read.
+    fn is_read(cache: &Cache, key: Key) -> bool {
+        let mut is_read = false;
+        let page = cache.get_or_read(key, || {
+            is_read = true;
+            Ok::<_, ()>(vec![key.1 as u8; 3])
+        });
+        assert_eq!(*page.unwrap(), [key.1 as u8; 3]);
+        is_read
+    }
+
+    #[test]
+    fn no_more_is_held_than_fits() {
+        let cache = Cache::new(3 * PAGE_LEN + 5);
+        for page in 0..10 {
+            assert!(is_read(&cache, (0, page)));
+            assert!(!is_read(&cache, (0, page)));
+            assert!(cache.held().pages.len() <= 3);
+        }
+        for page in 7..10 {
+            assert!(!is_read(&cache, (0, page)));
+        }
+        assert!(is_read(&cache, (1, 9)));
+        assert!(is_read(&cache, (0, 7)));
+    }
+
+    #[test]
+    fn a_cache_without_room_holds_nothing() {
+        let cache = Cache::new(PAGE_LEN - 1);
+        assert!(is_read(&cache, (0, 0)));
+        assert!(is_read(&cache, (0, 0)));
+        assert!(cache.held().pages.is_empty());
+    }
+
+    #[test]
+    fn a_failure_is_not_held() {
+        let cache = Cache::new(PAGE_LEN);
+        let failed = cache.get_or_read((0, 0), || Err::<Vec<u8>, _>("failed"));
+        assert_eq!(failed.unwrap_err(), "failed");
+        assert!(is_read(&cache, (0, 0)));
+    }
+}

@@ -170,28 +170,52 @@ impl fmt::Display for ArchiveError {
 
 impl fmt::Display for Missing {
     fn fmt(&self, f: &mut fmt::Formatter<'_>) -> fmt::Result {
-        write!(f, "inode {}:", self.inode)?;
-        let mut separator = " ";
-        for volume in &self.volumes {
-            write!(f, "{separator}volume {volume} is needed and was not given")?;
-            separator = ", ";
+        write!(f, "inode {}: ", self.inode)?;
+        match &self.volumes[..] {
+            [] => (),
+            [one] => write!(f, "volume {one} is needed and was not given")?,
+            more => {
+                write!(f, "volumes ")?;
+                some(f, more, ", ")?;
+                write!(f, " are needed and were not given")?;
+            }
         }
-        for short in &self.short {
-            write!(f, "{separator}{short}")?;
-            separator = ", ";
+        if !self.volumes.is_empty() && !self.short.is_empty() {
+            write!(f, "; ")?;
         }
-        Ok(())
+        some(f, &self.short, "; ")
+    }
+}
+
+/// The first of some things, and how many more there are: a file may lack a thousand, and a line of
+/// text is for a person.
+fn some<T: fmt::Display>(f: &mut fmt::Formatter<'_>, things: &[T], separator: &str) -> fmt::Result {
+    const SHOWN: usize = 8;
+    for (place, thing) in things.iter().take(SHOWN).enumerate() {
+        let before = if place == 0 { "" } else { separator };
+        write!(f, "{before}{thing}")?;
+    }
+    match things.len().saturating_sub(SHOWN) {
+        0 => Ok(()),
+        more => write!(f, " and {more} more"),
     }
 }
 
 impl fmt::Display for ShortExtent {
     fn fmt(&self, f: &mut fmt::Formatter<'_>) -> fmt::Result {
-        let Extent { start, volume, .. } = self.extent;
-        write!(
-            f,
-            "extent {} at {start} of volume {volume} reaches beyond its {} bytes",
-            self.index, self.volume_len
-        )
+        let ShortExtent {
+            index,
+            extent: Extent { start, volume, .. },
+            volume_len,
+        } = self;
+        write!(f, "extent {index} at {start} of volume {volume} ")?;
+        match volume_len {
+            0 => write!(
+                f,
+                "names a volume above 4095, which no file can be stored in"
+            ),
+            _ => write!(f, "reaches beyond its {volume_len} bytes"),
+        }
     }
 }
 
