@@ -199,6 +199,20 @@ fn a_folder_stands_for_the_volumes_in_it() {
     folder.run("inodes archive/more.vol").is(2, "", none);
 }
 
+/// So many names that a folder does not have them in their order by chance.
+#[test]
+fn the_volumes_of_a_folder_stand_in_the_order_of_their_names() {
+    let folder = Folder::new("sets_order");
+    for number in (1..=30_u64).rev() {
+        folder.put(&format!("{:02}.vol", number * 7 % 31), &empty(number));
+    }
+    let answer = folder.run("check . -j 4");
+    let names: Vec<&str> = answer.out.lines().map(|line| &line[..4]).collect();
+    let expected: Vec<String> = (1..=30).map(|number| format!("./{number:02}")).collect();
+    assert_eq!(names[..30], expected);
+    assert_eq!(answer.status, 0);
+}
+
 #[test]
 fn a_volume_through_a_pipe_is_read_once_and_kept() {
     let folder = Folder::new("sets_pipe");

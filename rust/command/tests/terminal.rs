@@ -3,6 +3,8 @@
 mod support;
 
 use std::process::{Child, Command, Stdio};
+use std::thread;
+use std::time::Duration;
 
 use support::signals::send;
 use support::terminal::Terminal;
@@ -81,6 +83,8 @@ fn a_dumb_terminal_gets_no_codes() {
             return;
         };
         terminal.wait_for("v0: accepted");
+        // On another terminal a line would be shown by now.
+        thread::sleep(Duration::from_millis(1500));
         folder.feed("slow", &mut child, &slow());
         assert!(child.wait().unwrap().success());
         let seen = terminal.read_to_end();

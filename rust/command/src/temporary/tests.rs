@@ -5,7 +5,7 @@
 use std::env;
 use std::io::Write;
 use std::os::unix::process::ExitStatusExt;
-use std::process::{Command, Stdio};
+use std::process::{Child, Command, Stdio};
 use std::thread;
 use std::time::Duration;
 
@@ -86,27 +86,50 @@ fn waits_with_a_name() {
     }
 }
 
+/// Starts the test above in a process of its own, after a line of the shell, and waits until it has
+/// made its file.
+fn start(folder: &Path, before: &str) -> Child {
+    let line =
+        format!("{before} exec \"$0\" --exact temporary::tests::waits_with_a_name --ignored");
+    let mut command = Command::new("sh");
+    command.args(["-c", &line]).arg(env::current_exe().unwrap());
+    command.env(FOLDER, folder).stdout(Stdio::null());
+    let mut child = command.spawn().unwrap();
+    while names(folder).is_empty() {
+        assert_eq!(child.try_wait().unwrap(), None, "it ended early");
+        thread::sleep(Duration::from_millis(5));
+    }
+    child
+}
+
+fn send(child: &Child, name: &str) {
+    let line = format!("kill -s {name} {}", child.id());
+    let sent = Command::new("sh").args(["-c", &line]).status();
+    assert!(sent.unwrap().success());
+}
+
 #[test]
 fn an_interrupt_removes_a_file_with_a_name() {
     let folder = empty_folder("interrupt");
     for (name, number) in [("TERM", 15), ("HUP", 1)] {
-        let mut command = Command::new(env::current_exe().unwrap());
-        command.args([
-            "--exact",
-            "temporary::tests::waits_with_a_name",
-            "--ignored",
-        ]);
-        command.env(FOLDER, &folder).stdout(Stdio::null());
-        let mut child = command.spawn().unwrap();
-        while names(&folder).is_empty() {
-            assert_eq!(child.try_wait().unwrap(), None, "it ended early");
-            thread::sleep(Duration::from_millis(5));
-        }
-        let line = format!("kill -s {name} {}", child.id());
-        let sent = Command::new("sh").args(["-c", &line]).status();
-        assert!(sent.unwrap().success());
+        let mut child = start(&folder, "");
+        send(&child, name);
         assert_eq!(child.wait().unwrap().signal(), Some(number), "{name}");
         assert_eq!(names(&folder), Vec::<String>::new(), "{name}");
     }
+    fs::remove_dir(folder).unwrap();
+}
+
+#[test]
+fn what_is_ignored_removes_nothing() {
+    let folder = empty_folder("ignored");
+    let mut child = start(&folder, "trap '' HUP;");
+    let before = names(&folder);
+    // If it were not ignored, it would end the process before the other signal does.
+    send(&child, "HUP");
+    assert_eq!(names(&folder), before);
+    send(&child, "TERM");
+    assert_eq!(child.wait().unwrap().signal(), Some(15));
+    assert_eq!(names(&folder), Vec::<String>::new());
     fs::remove_dir(folder).unwrap();
 }
