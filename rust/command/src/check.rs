@@ -77,7 +77,8 @@ impl Report {
                 self.accepted += 1;
                 self.put(&member)?;
                 if self.no_set.is_none() {
-                    self.no_set = self.set.insert(member).err().map(Failure::from);
+                    let inserted = self.set.insert(member.without_inodes());
+                    self.no_set = inserted.err().map(Failure::from);
                 }
                 Ok(())
             }

@@ -125,6 +125,24 @@ impl Member {
     pub fn end(&self) -> Bookmark {
         self.scanned.end
     }
+
+    /// The same volume without what is known about its inodes. Whoever wants to know whether volumes
+    /// are a set, and nothing more, needs much less memory so: an archive of such members has no
+    /// inodes.
+    ///
+    /// ```
+    /// use hdrfs::{Archive, Checker};
+    /// # std::env::set_current_dir("tests/gauge")?;
+    ///
+    /// let mut archive = Archive::new();
+    /// archive.insert(Checker::new().path("0.vol")?.without_inodes())?;
+    /// assert_eq!((archive.volumes().count(), archive.inodes().len()), (1, 0));
+    /// # Ok::<(), Box<dyn std::error::Error>>(())
+    /// ```
+    pub fn without_inodes(self) -> Member {
+        let found = Found::default();
+        Member { found, ..self }
+    }
 }
 
 /// Reads volumes and checks them, one after the other, with one buffer for all of them.
