@@ -42,7 +42,7 @@ const CACHE_BYTES: usize = 64 << 20;
 
 /// A set of volumes of one file system.
 ///
-/// It takes about 4 KiB of memory for each volume, some 150 bytes for each inode number, and the
+/// It takes about 4 KiB of memory for each volume, about 100 bytes for each inode number, and the
 /// bytes of pages that are held, which have a bound; also those of volumes that came through pipes.
 ///
 /// ```

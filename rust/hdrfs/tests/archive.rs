@@ -343,3 +343,29 @@ fn a_volume_above_4095_has_inodes_and_no_files() {
     );
     assert_eq!(line, expected);
 }
+
+#[test]
+fn an_archive_of_one_inode_has_what_is_about_it() {
+    let volumes = [
+        volume(0, |draft| {
+            draft.file(7, 1, &[]);
+            draft.file(8, 2, &[]);
+            draft.link(7, "seven");
+            draft.unlink(8, "eight");
+        }),
+        volume(1, |draft| {
+            draft.file(7, 3, &[]);
+            draft.unlink(7, "seven");
+        }),
+    ];
+    let whole = in_memory(&volumes).unwrap();
+    for number in 7..=9 {
+        let mut archive = Archive::new();
+        for bytes in &volumes {
+            let member = Checker::new().bytes("a volume", bytes.clone()).unwrap();
+            archive.insert(member.with_inode(number)).unwrap();
+        }
+        assert_eq!(archive.inode(number), whole.inode(number));
+        assert_eq!(archive.inodes().len(), usize::from(number < 9));
+    }
+}

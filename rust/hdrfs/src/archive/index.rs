@@ -69,13 +69,42 @@ impl CurrentInode {
     }
 }
 
-/// What a block says of an inode, and where it stands in its volume.
+/// What a block says of an inode, and where it stands in its volume. There may be very many of
+/// these, so they are kept small: a volume has at most 2^24 bytes.
 #[derive(Clone, Copy, Debug)]
 struct State {
-    offset: u64,
-    block_len: u64,
+    offset: u32,
+    block_len: u32,
     time: u64,
-    inode: Inode<'static>,
+    mode: u16,
+    uid: u16,
+    gid: u16,
+    atime: u64,
+    mtime: u64,
+    ctime: u64,
+    btime: u64,
+    size: u64,
+}
+
+impl State {
+    fn of(offset: u64, block: &sys::Block) -> State {
+        let short = |number: u64| u32::try_from(number).expect("volumes are short");
+        // The mode and the two behind it are two bytes wide in the volume.
+        let Inode { mode, uid, gid, .. } = Inode::new(block, &[]);
+        State {
+            offset: short(offset),
+            block_len: short(block.next - offset),
+            time: block.time,
+            mode,
+            uid,
+            gid,
+            atime: block.atime,
+            mtime: block.mtime,
+            ctime: block.ctime,
+            btime: block.btime,
+            size: block.size,
+        }
+    }
 }
 
 /// The inodes and links that were found in one volume: the last of each number.
@@ -91,18 +120,23 @@ impl Found {
     pub(super) fn visit(&mut self, offset: u64, block: &sys::Block) {
         match block.id {
             INODE => {
-                let state = State {
-                    offset,
-                    block_len: block.next - offset,
-                    time: block.time,
-                    inode: Inode::new(block, &[]),
-                };
-                self.inodes.insert(block.inode, state);
+                self.inodes.insert(block.inode, State::of(offset, block));
             }
             LINK | UNLINK => {
                 self.links.insert(block.child, block.id == UNLINK);
             }
             _ => (),
+        }
+    }
+
+    /// Leaves out all but what is about one inode.
+    pub(super) fn keep(self, number: u64) -> Found {
+        let Found { inodes, links } = self;
+        let inodes = inodes.get(&number).map(|state| (number, *state));
+        let links = links.get(&number).map(|unlinked| (number, *unlinked));
+        Found {
+            inodes: inodes.into_iter().collect(),
+            links: links.into_iter().collect(),
         }
     }
 }
@@ -134,31 +168,30 @@ impl Index {
 
     pub(super) fn get(&self, number: u64) -> Option<CurrentInode> {
         let (volume, state) = self.inodes.get(&number)?;
-        Some(self.current(*volume, state))
+        Some(self.current(number, *volume, state))
     }
 
     pub(super) fn iter(&self) -> impl ExactSizeIterator<Item = CurrentInode> + '_ {
-        let inodes = self.inodes.values();
-        inodes.map(|(volume, state)| self.current(*volume, state))
+        let inodes = self.inodes.iter();
+        inodes.map(|(number, (volume, state))| self.current(*number, *volume, state))
     }
 
-    fn current(&self, volume: u64, state: &State) -> CurrentInode {
-        let inode = &state.inode;
-        let link = self.links.get(&inode.number);
+    fn current(&self, number: u64, volume: u64, state: &State) -> CurrentInode {
+        let link = self.links.get(&number);
         CurrentInode {
-            number: inode.number,
+            number,
             volume,
-            offset: state.offset,
-            block_len: state.block_len,
+            offset: u64::from(state.offset),
+            block_len: u64::from(state.block_len),
             time: state.time,
-            mode: inode.mode,
-            uid: inode.uid,
-            gid: inode.gid,
-            atime: inode.atime,
-            mtime: inode.mtime,
-            ctime: inode.ctime,
-            btime: inode.btime,
-            size: inode.size,
+            mode: state.mode,
+            uid: state.uid,
+            gid: state.gid,
+            atime: state.atime,
+            mtime: state.mtime,
+            ctime: state.ctime,
+            btime: state.btime,
+            size: state.size,
             unlinked: link.is_some_and(|(_, unlinked)| *unlinked),
         }
     }

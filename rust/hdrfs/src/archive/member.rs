@@ -65,6 +65,26 @@ impl Member {
         self.scanned.heading.sequence
     }
 
+    /// The same volume with what is known about one inode only. Whoever wants a single file needs
+    /// much less memory so: an archive of such members has no other inodes.
+    ///
+    /// ```
+    /// use hdrfs::{Archive, Checker};
+    /// # std::env::set_current_dir("tests/gauge")?;
+    ///
+    /// let mut archive = Archive::new();
+    /// for path in ["0.vol", "1.vol", "2.vol"] {
+    ///     archive.insert(Checker::new().path(path)?.with_inode(7))?;
+    /// }
+    /// assert!(archive.inode(7).is_some() && archive.inode(8).is_none());
+    /// assert_eq!(archive.file(7)?.size(), 246);
+    /// # Ok::<(), Box<dyn std::error::Error>>(())
+    /// ```
+    pub fn with_inode(self, number: u64) -> Member {
+        let found = self.found.keep(number);
+        Member { found, ..self }
+    }
+
     /// The ID of the file system.
     ///
     /// ```
