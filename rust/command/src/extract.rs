@@ -71,7 +71,7 @@ impl Extract {
         files: &[PathBuf],
         write: impl FnOnce(&ArchiveFile) -> Result<u64, Failure>,
     ) -> Result<Report, Failure> {
-        let archive = set::open(files, self.jobs)?;
+        let archive = set::open(files, self.jobs, Some(self.inode))?;
         let file = set::file(&archive, self.inode)?;
         let stored = write(&file)?;
         let inode = file.current();

@@ -31,7 +31,7 @@ impl Request for Inodes {
     }
 
     fn run(&self, json: bool) -> Result<Status, Failure> {
-        let archive = set::open(&input::volumes(&self.files)?, self.jobs)?;
+        let archive = set::open(&input::volumes(&self.files)?, self.jobs, None)?;
         let mut lines = Lines::new();
         match json {
             true => objects(&archive, &mut lines)?,

@@ -5,10 +5,15 @@ use hdrfs::{Missing, ShortExtent};
 use crate::json::{list, Object};
 use crate::text::listed;
 
+/// How many volumes and how many extents are named in words. There may be 1,024.
+const NAMED: usize = 8;
+
 /// The volumes that are not given, and apart from them the extents that reach too far.
 pub fn words(missing: &Missing) -> String {
     let mut said = Vec::new();
-    let volumes: Vec<String> = missing.volumes.iter().map(u64::to_string).collect();
+    let mut volumes: Vec<String> = missing.volumes.iter().map(u64::to_string).collect();
+    let more = shorten(&mut volumes);
+    volumes.extend(more.map(|more| format!("{more} more")));
     match &volumes[..] {
         [] => (),
         [one] => said.push(format!("it needs volume {one}, which is not given")),
@@ -17,8 +22,18 @@ pub fn words(missing: &Missing) -> String {
             said.push(format!("it needs volumes {volumes}, which are not given"));
         }
     }
-    said.extend(missing.short.iter().map(short));
+    let mut extents: Vec<String> = missing.short.iter().map(short).collect();
+    let more = shorten(&mut extents);
+    extents.extend(more.map(|more| format!("and so do {more} more")));
+    said.extend(extents);
     said.join("; ")
+}
+
+/// Takes away what is too much to be named, and answers how many there were.
+fn shorten(named: &mut Vec<String>) -> Option<usize> {
+    let more = named.len().checked_sub(NAMED).filter(|more| *more > 0)?;
+    named.truncate(NAMED);
+    Some(more)
 }
 
 fn short(short: &ShortExtent) -> String {

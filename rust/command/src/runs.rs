@@ -37,7 +37,7 @@ impl Request for Runs {
     }
 
     fn run(&self, json: bool) -> Result<Status, Failure> {
-        let archive = set::open(&input::volumes(&self.files)?, self.jobs)?;
+        let archive = set::open(&input::volumes(&self.files)?, self.jobs, Some(self.inode))?;
         // A refusal comes before everything else, and so before the heading.
         let file = set::file(&archive, self.inode)?;
         let mut lines = Lines::new();

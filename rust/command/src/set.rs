@@ -11,13 +11,18 @@ use crate::failure::Failure;
 use crate::progress::Progress;
 
 /// Checks all volumes and takes them together. The first that is refused, cannot be read or does not
-/// belong to the others ends it.
-pub fn open(files: &[PathBuf], jobs: NonZeroUsize) -> Result<Archive, Failure> {
+/// belong to the others ends it. Where only one inode is wanted, no other is kept: there may be very
+/// many.
+pub fn open(files: &[PathBuf], jobs: NonZeroUsize, only: Option<u64>) -> Result<Archive, Failure> {
     let progress = Progress::new("volume", "read", files.len() as u64);
     let mut archive = Archive::new();
     let ended = check_each(files, jobs, |_, checked| {
         progress.add(1);
-        match checked.and_then(|member| archive.insert(member)) {
+        let inserted = checked.and_then(|member| match only {
+            Some(number) => archive.insert(member.with_inode(number)),
+            None => archive.insert(member),
+        });
+        match inserted {
             Ok(()) => ControlFlow::Continue(()),
             Err(error) => ControlFlow::Break(error),
         }

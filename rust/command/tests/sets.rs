@@ -6,7 +6,7 @@ use std::fs;
 use std::io::Write;
 use std::process::Stdio;
 
-use support::json::object;
+use support::json::{object, Value};
 use support::volumes::{data, file, header, small_volume, table, Extent};
 use support::{of_file_system, Folder, NO_ID};
 
@@ -155,6 +155,38 @@ fn what_a_file_lacks_is_told() {
         ),
     ]);
     assert_eq!((answer.status, answer.objects()), (1, vec![expected]));
+}
+
+/// Only some are named in words, and all for machines.
+#[test]
+fn a_file_that_lacks_very_much() {
+    let folder = Folder::new("sets_lacking_much");
+    folder.put("v0", &small_volume());
+    let extents: Vec<Extent> = (0..100)
+        .map(|number| match number % 2 {
+            0 => Extent::once(10 + number, 97, 3, 3 * number),
+            _ => Extent::once(0, 200 + number, 3, 3 * number),
+        })
+        .collect();
+    folder.put(
+        "v1",
+        &[header(1), table(&[]), file(8, 7, 300, &extents)].concat(),
+    );
+    let answer = folder.run("runs v0 v1 --inode 7");
+    let volumes =
+        "it needs volumes 10, 12, 14, 16, 18, 20, 22, 24 and 42 more, which are not given; ";
+    assert!(answer.err.contains(volumes), "{answer:?}");
+    let first = "; its extent 1, at 201 of volume 0, reaches beyond the 104 bytes there; ";
+    assert!(answer.err.contains(first), "{answer:?}");
+    assert!(answer.err.ends_with("; and so do 42 more\n"), "{answer:?}");
+    assert_eq!(answer.err.matches("its extent").count(), 8);
+    let objects = folder.run("runs v0 v1 --inode 7 --json").objects();
+    let missing: Vec<u64> = (0..50).map(|number| 10 + 2 * number).collect();
+    assert_eq!(objects[0]["missing"], missing.into());
+    let Value::List(short) = &objects[0]["short"] else {
+        panic!("no list");
+    };
+    assert_eq!(short.len(), 50);
 }
 
 #[test]
