@@ -1,5 +1,6 @@
 //! Which inode blocks are current, and which links were taken away last.
 
+use std::cmp::Reverse;
 use std::collections::{BTreeMap, HashMap};
 
 use crate::{sys, FileType, Inode};
@@ -88,7 +89,6 @@ struct State {
 
 impl State {
     fn of(offset: u64, block: &sys::Block) -> State {
-        let short = |number: u64| u32::try_from(number).expect("volumes are short");
         // The mode and the two behind it are two bytes wide in the volume.
         let Inode { mode, uid, gid, .. } = Inode::new(block, &[]);
         State {
@@ -107,12 +107,16 @@ impl State {
     }
 }
 
-/// The inodes and links that were found in one volume: the last of each number.
+fn short(number: u64) -> u32 {
+    u32::try_from(number).expect("a volume has at most 2^24 bytes")
+}
+
+/// The inodes and links that were found in one volume: the last of each number, by rising number.
 #[derive(Debug, Default)]
 pub(super) struct Found {
-    inodes: HashMap<u64, State>,
-    /// By the child's number, whether the link was taken away.
-    links: HashMap<u64, bool>,
+    inodes: Vec<(u64, State)>,
+    /// By the child's number, where the block stands and whether the link was taken away.
+    links: Vec<(u64, u32, bool)>,
 }
 
 impl Found {
@@ -120,24 +124,42 @@ impl Found {
     pub(super) fn visit(&mut self, offset: u64, block: &sys::Block) {
         match block.id {
             INODE => {
-                self.inodes.insert(block.inode, State::of(offset, block));
+                let state = State::of(offset, block);
+                match self.inodes.last_mut() {
+                    // A file that grows is often written again and again.
+                    Some((number, last)) if *number == block.inode => *last = state,
+                    _ => self.inodes.push((block.inode, state)),
+                }
             }
             LINK | UNLINK => {
-                self.links.insert(block.child, block.id == UNLINK);
+                let unlinked = block.id == UNLINK;
+                self.links.push((block.child, short(offset), unlinked));
             }
             _ => (),
         }
     }
 
+    /// Leaves out what a later block of the volume supersedes. To sort once is quicker than to keep
+    /// a table, and takes less memory.
+    pub(super) fn finish(mut self) -> Found {
+        let inodes = &mut self.inodes;
+        inodes.sort_unstable_by_key(|(number, state)| (*number, Reverse(state.offset)));
+        inodes.dedup_by_key(|(number, _)| *number);
+        inodes.shrink_to_fit();
+        let links = &mut self.links;
+        links.sort_unstable_by_key(|(child, offset, _)| (*child, Reverse(*offset)));
+        links.dedup_by_key(|(child, ..)| *child);
+        links.shrink_to_fit();
+        self
+    }
+
     /// Leaves out all but what is about one inode.
-    pub(super) fn keep(self, number: u64) -> Found {
-        let Found { inodes, links } = self;
-        let inodes = inodes.get(&number).map(|state| (number, *state));
-        let links = links.get(&number).map(|unlinked| (number, *unlinked));
-        Found {
-            inodes: inodes.into_iter().collect(),
-            links: links.into_iter().collect(),
-        }
+    pub(super) fn keep(mut self, number: u64) -> Found {
+        self.inodes.retain(|(found, _)| *found == number);
+        self.inodes.shrink_to_fit();
+        self.links.retain(|(child, ..)| *child == number);
+        self.links.shrink_to_fit();
+        self
     }
 }
 
@@ -158,7 +180,7 @@ impl Index {
                 *entry = (sequence, state);
             }
         }
-        for (child, unlinked) in found.links {
+        for (child, _, unlinked) in found.links {
             let entry = self.links.entry(child).or_insert((sequence, unlinked));
             if entry.0 < sequence {
                 *entry = (sequence, unlinked);

@@ -258,7 +258,7 @@ impl Checker {
 fn check(path: &Path, volume: &[u8]) -> Result<(Scanned, Found), ArchiveError> {
     let mut found = Found::default();
     match scan(volume, |offset, block| found.visit(offset, block)) {
-        Ok(scanned) => Ok((scanned, found)),
+        Ok(scanned) => Ok((scanned, found.finish())),
         Err(rejected) => Err(ArchiveError::rejected(path.to_path_buf(), rejected)),
     }
 }
