@@ -62,9 +62,9 @@ impl Volume {
         let answer = sys::header(volume);
         Refusal::unless_accepted(answer.refusal, 0)?;
         Ok(Heading {
-            id: header_part(volume, ID_AT),
+            id: header_part(volume, answer.id),
             sequence: answer.sequence,
-            previous: header_part(volume, PREVIOUS_AT),
+            previous: header_part(volume, answer.previous),
             next: Bookmark::from_numbers(answer.next, answer.due, 0, 0),
         })
     }
@@ -110,12 +110,7 @@ pub struct Heading {
     pub next: Bookmark,
 }
 
-/// Where the file system ID and the previous hash stand in a header. The library does not say so
-/// yet: until it does, their places in the layout stand here, and nowhere else.
-const ID_AT: u64 = 18;
-const PREVIOUS_AT: u64 = 44;
-
-/// A part of an accepted header.
+/// A part of an accepted header, at the place that the library tells.
 fn header_part<const LEN: usize>(volume: &[u8], at: u64) -> [u8; LEN] {
     let part = part(volume, at, LEN as u64);
     part.try_into().expect("the part has this length")
