@@ -73,8 +73,9 @@ what is refused and where.
   2 link     4 xattr     6 data             8 link table
 
   -l, --long    first the volume's file system ID and the hash of the volume
-                before it; then of each block also its number, its kind in
-                words, its time and what it is about, with the names of links
+                before it; then of each block also its number, from 0, its
+                kind in words, its time and what it is about, with the names
+                of links
   --json        an object a line: file, sequence, id and previous; for each
                 block offset, id and length, and with --long all its numbers
                 and names; at the end, end and blocks, or file, refused,

@@ -56,7 +56,7 @@ impl List {
         let mut count = 0;
         for block in blocks.by_ref() {
             match block {
-                Ok(block) => lines.put(&self.block_line(count + 1, &block, json))?,
+                Ok(block) => lines.put(&self.block_line(count, &block, json))?,
                 Err(refusal) => return refuse(lines, path, refusal, count, json),
             }
             count += 1;

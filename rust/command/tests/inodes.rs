@@ -86,10 +86,10 @@ fn the_long_form_of_a_listing() {
             "\"a\" to \"b/c\"",
         ]
     );
-    let table = "     1        80  link table           36                     -  1 link";
+    let table = "     0        80  link table           36                     -  1 link";
     assert_eq!(lines[2], table);
     let folder_line =
-        "     2       116  inode                75                     1  inode 1, folder";
+        "     1       116  inode                75                     1  inode 1, folder";
     assert_eq!(lines[4], folder_line);
     let end = all_kinds().len();
     assert_eq!(lines[13], format!("end {end} blocks 10"));
@@ -128,7 +128,7 @@ fn the_long_form_for_machines() {
         ("name", "gauge".into()),
     ]);
     let table = object([
-        ("block", 1.into()),
+        ("block", 0.into()),
         ("offset", 80.into()),
         ("id", 8.into()),
         ("kind", "link table".into()),
