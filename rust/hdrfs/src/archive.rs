@@ -14,6 +14,7 @@ mod error;
 mod file;
 mod index;
 mod lack;
+mod last_link;
 mod member;
 mod pages;
 mod reader;
@@ -32,6 +33,7 @@ pub use each::check_each;
 pub use error::{ArchiveError, Missing, ShortExtent};
 pub use file::{ArchiveFile, InodeBlock};
 pub use index::CurrentInode;
+pub use last_link::LastLink;
 pub use member::{Checker, Member};
 pub use reader::ArchiveReader;
 
@@ -42,8 +44,9 @@ const CACHE_BYTES: usize = 64 << 20;
 
 /// A set of volumes of one file system.
 ///
-/// It takes about 4 KiB of memory for each volume, about 100 bytes for each inode number, and the
-/// bytes of pages that are held, which have a bound; also those of volumes that came through pipes.
+/// It takes about 4 KiB of memory for each volume, about 100 bytes for each inode number, as much
+/// again and the name for its last link, and the bytes of pages that are held, which have a bound;
+/// also those of volumes that came through pipes.
 ///
 /// ```
 /// use std::io::Read;
@@ -252,6 +255,22 @@ impl Archive {
     #[must_use]
     pub fn inode(&self, number: u64) -> Option<CurrentInode> {
         self.index.get(number)
+    }
+
+    /// The last link to an inode: its name, and whether that was taken away. There is none where no
+    /// volume that was given has a link to it.
+    ///
+    /// ```
+    /// # std::env::set_current_dir("tests/gauge")?;
+    /// let archive = hdrfs::Archive::open(["0.vol", "1.vol", "2.vol"])?;
+    /// let link = archive.last_link(8).unwrap();
+    /// assert_eq!((link.name, link.parent), ("gauge.csv", 1));
+    /// assert_eq!(archive.last_link(1), None);
+    /// # Ok::<(), Box<dyn std::error::Error>>(())
+    /// ```
+    #[must_use]
+    pub fn last_link(&self, number: u64) -> Option<LastLink<'_>> {
+        self.index.last_link(number)
     }
 
     /// The current inode block of a number, read again: its extents, or its target.

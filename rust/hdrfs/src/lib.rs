@@ -64,7 +64,7 @@ mod writer;
 
 pub use archive::{
     check_each, Archive, ArchiveError, ArchiveFile, ArchiveReader, Checker, Chunk, Chunks,
-    CurrentInode, InodeBlock, Member, Missing, ShortExtent,
+    CurrentInode, InodeBlock, LastLink, Member, Missing, ShortExtent,
 };
 pub use blocks::{Block, Blocks, Content};
 pub use bookmark::Bookmark;

@@ -167,20 +167,27 @@ pub struct Links<'a> {
     left: usize,
 }
 
+impl Links<'_> {
+    /// The next link, with the place of its name in the bytes of the links.
+    pub(crate) fn next_entry(&mut self) -> Option<sys::LinkEntry> {
+        self.left = self.left.checked_sub(1)?;
+        let entry = sys::link(self.table.links, self.at);
+        // The table was accepted, so all its links are there. To stop early would hide some.
+        assert_eq!(entry.missing, 0, "an accepted table has all its links");
+        self.at = entry.next;
+        Some(entry)
+    }
+}
+
 impl<'a> Iterator for Links<'a> {
     type Item = Link<'a>;
 
     fn next(&mut self) -> Option<Link<'a>> {
-        self.left = self.left.checked_sub(1)?;
-        let links = self.table.links;
-        let entry = sys::link(links, self.at);
-        // The table was accepted, so all its links are there. To stop early would hide some.
-        assert_eq!(entry.missing, 0, "an accepted table has all its links");
-        self.at = entry.next;
+        let entry = self.next_entry()?;
         Some(Link {
             child: entry.child,
             parent: entry.parent,
-            name: text(part(links, entry.name, entry.name_len)),
+            name: text(part(self.table.links, entry.name, entry.name_len)),
         })
     }
 

@@ -193,28 +193,6 @@ fn the_last_block_in_the_highest_volume_is_current() {
 }
 
 #[test]
-fn a_link_that_was_taken_away_last_is_told() {
-    let volumes = [
-        volume(2, |draft| draft.link(8, "again")),
-        volume(0, |draft| {
-            for number in 7..=10 {
-                draft.file(number, 0, &[]);
-                draft.link(number, "name");
-            }
-            draft.unlink(7, "name");
-            draft.unlink(9, "name");
-            draft.link(9, "other name");
-        }),
-        volume(1, |draft| draft.unlink(8, "name")),
-    ];
-    let archive = in_memory(&volumes).unwrap();
-    let unlinked: Vec<_> = archive.inodes().map(|inode| inode.unlinked).collect();
-    assert_eq!(unlinked, [true, false, false, false]);
-    let first_two = in_memory(&volumes[1..]).unwrap();
-    assert!(first_two.inode(8).unwrap().unlinked);
-}
-
-#[test]
 fn every_kind_of_inode_is_told() {
     let archive = in_memory(&[volume(0, |draft| {
         let target = "gauge.csv";
@@ -342,30 +320,4 @@ fn a_volume_above_4095_has_inodes_and_no_files() {
          be stored in"
     );
     assert_eq!(line, expected);
-}
-
-#[test]
-fn an_archive_of_one_inode_has_what_is_about_it() {
-    let volumes = [
-        volume(0, |draft| {
-            draft.file(7, 1, &[]);
-            draft.file(8, 2, &[]);
-            draft.link(7, "seven");
-            draft.unlink(8, "eight");
-        }),
-        volume(1, |draft| {
-            draft.file(7, 3, &[]);
-            draft.unlink(7, "seven");
-        }),
-    ];
-    let whole = in_memory(&volumes).unwrap();
-    for number in 7..=9 {
-        let mut archive = Archive::new();
-        for bytes in &volumes {
-            let member = Checker::new().bytes("a volume", bytes.clone()).unwrap();
-            archive.insert(member.with_inode(number)).unwrap();
-        }
-        assert_eq!(archive.inode(number), whole.inode(number));
-        assert_eq!(archive.inodes().len(), usize::from(number < 9));
-    }
 }

@@ -78,7 +78,7 @@ pub fn summary(set: &Set<'_>) -> Fields {
     ]
 }
 
-/// What is said of an inode. A link that stands in a table later is not compared.
+/// What is said of an inode.
 pub fn inode(inode: &Inode<'_>) -> Fields {
     let stat = &inode.stat;
     let mut fields = vec![
@@ -101,10 +101,8 @@ pub fn inode(inode: &Inode<'_>) -> Fields {
         10 => fields.push(("type", text("symbolic link"))),
         _ => {}
     }
-    if !inode.last_link.is_some_and(|link| link.in_table) {
-        let taken_away = inode.last_link.is_some_and(|link| link.taken_away);
-        fields.push(("unlinked", Json::Bool(taken_away)));
-    }
+    let taken_away = inode.last_link.is_some_and(|link| link.taken_away);
+    fields.push(("unlinked", Json::Bool(taken_away)));
     fields
 }
 

@@ -32,7 +32,13 @@ pub fn compare(both: &Both<'_>, numbers: &[u64]) -> Result<u64, Difference> {
     }
     for inode in proved.inodes() {
         let last = independent.inodes()[&inode.number].last_link;
-        unlinked(&inode, last)?;
+        let taken_away = last.is_some_and(|link| link.taken_away);
+        let number = inode.number;
+        let question = || format!("whether the last link to {number} is gone");
+        same(inode.unlinked, taken_away, question)?;
+        let given = proved.last_link(number).map(|link| given_link(&link));
+        let expected = last.map(|link| expected_link(&link));
+        same(given, expected, || format!("last link to {number}"))?;
     }
     Ok(expected.len() as u64)
 }
@@ -59,14 +65,25 @@ fn volumes(both: &Both<'_>) -> Result<(), Difference> {
     Ok(())
 }
 
-/// Whether a link was taken away last. A link that stands in a table later is not compared.
-fn unlinked(inode: &CurrentInode, last: Option<LastLink<'_>>) -> Result<(), Difference> {
-    if last.is_some_and(|link| link.in_table) {
-        return Ok(());
+/// Whether it was taken away, the parent, the name, and whether that is cut.
+type Link = (bool, u64, String, bool);
+
+fn given_link(link: &hdrfs::LastLink<'_>) -> Link {
+    (link.taken_away, link.parent, link.name.into(), link.cut)
+}
+
+/// Of a name, the characters that end within the first 255 bytes are told.
+fn expected_link(link: &LastLink<'_>) -> Link {
+    let name = std::str::from_utf8(link.name).expect("an accepted name is text");
+    let mut told = String::new();
+    for letter in name.chars() {
+        if told.len() + letter.len_utf8() > 255 {
+            break;
+        }
+        told.push(letter);
     }
-    let taken_away = last.is_some_and(|link| link.taken_away);
-    let question = || format!("whether the last link to {} is gone", inode.number);
-    same(inode.unlinked, taken_away, question)
+    let cut = told != name;
+    (link.taken_away, link.parent, told, cut)
 }
 
 /// The inode block of a number, with its extents or its target.

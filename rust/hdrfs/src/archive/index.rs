@@ -1,14 +1,16 @@
-//! Which inode blocks are current, and which links were taken away last.
+//! Which inode blocks are current, and which links are the last.
 
 use std::cmp::Reverse;
-use std::collections::{BTreeMap, HashMap};
+use std::collections::BTreeMap;
 
+use super::last_link::{LastLink, LastLinks, LinkFinder, VolumeLinks};
 use crate::{sys, FileType, Inode};
 
 /// The IDs of the blocks that matter here.
 const INODE: u64 = 1;
 const LINK: u64 = 2;
 const UNLINK: u64 = 3;
+const LINK_TABLE: u64 = 8;
 
 /// The current state of an inode: what its last block says in the highest volume that has one.
 ///
@@ -49,8 +51,7 @@ pub struct CurrentInode {
     pub btime: u64,
     /// The size; for a regular file, how many positions it has.
     pub size: u64,
-    /// Whether a link to it was taken away last: of all link and unlink blocks that have it as
-    /// child, the last is an unlink.
+    /// Whether a link to it was taken away last: its [last link](crate::LastLink) is an unlink.
     pub unlinked: bool,
 }
 
@@ -111,15 +112,21 @@ fn short(number: u64) -> u32 {
     u32::try_from(number).expect("a volume has at most 2^24 bytes")
 }
 
-/// The inodes and links that were found in one volume: the last of each number, by rising number.
-#[derive(Debug, Default)]
-pub(super) struct Found {
+/// Finds the inodes and links of one volume.
+#[derive(Debug)]
+pub(super) struct Finder<'a> {
     inodes: Vec<(u64, State)>,
-    /// By the child's number, where the block stands and whether the link was taken away.
-    links: Vec<(u64, u32, bool)>,
+    links: LinkFinder<'a>,
 }
 
-impl Found {
+impl<'a> Finder<'a> {
+    pub(super) fn new(volume: &'a [u8]) -> Finder<'a> {
+        Finder {
+            inodes: Vec::new(),
+            links: LinkFinder::new(volume),
+        }
+    }
+
     /// Takes in the next block of the volume.
     pub(super) fn visit(&mut self, offset: u64, block: &sys::Block) {
         match block.id {
@@ -131,35 +138,38 @@ impl Found {
                     _ => self.inodes.push((block.inode, state)),
                 }
             }
-            LINK | UNLINK => {
-                let unlinked = block.id == UNLINK;
-                self.links.push((block.child, short(offset), unlinked));
-            }
+            LINK | UNLINK => self.links.block(block, block.id == UNLINK),
+            LINK_TABLE => self.links.table(block),
             _ => (),
         }
     }
 
     /// Leaves out what a later block of the volume supersedes. To sort once is quicker than to keep
     /// a table, and takes less memory.
-    pub(super) fn finish(mut self) -> Found {
-        let inodes = &mut self.inodes;
+    pub(super) fn finish(self) -> Found {
+        let mut inodes = self.inodes;
         inodes.sort_unstable_by_key(|(number, state)| (*number, Reverse(state.offset)));
         inodes.dedup_by_key(|(number, _)| *number);
         inodes.shrink_to_fit();
-        let links = &mut self.links;
-        links.sort_unstable_by_key(|(child, offset, _)| (*child, Reverse(*offset)));
-        links.dedup_by_key(|(child, ..)| *child);
-        links.shrink_to_fit();
-        self
+        let links = self.links.finish();
+        Found { inodes, links }
     }
+}
 
+/// The inodes and links that were found in one volume: the last of each number, by rising number.
+#[derive(Debug, Default)]
+pub(super) struct Found {
+    inodes: Vec<(u64, State)>,
+    links: VolumeLinks,
+}
+
+impl Found {
     /// Leaves out all but what is about one inode.
     pub(super) fn keep(mut self, number: u64) -> Found {
         self.inodes.retain(|(found, _)| *found == number);
         self.inodes.shrink_to_fit();
-        self.links.retain(|(child, ..)| *child == number);
-        self.links.shrink_to_fit();
-        self
+        let links = self.links.keep(number);
+        Found { links, ..self }
     }
 }
 
@@ -168,7 +178,7 @@ impl Found {
 pub(super) struct Index {
     /// With the sequence number of the volume.
     inodes: BTreeMap<u64, (u64, State)>,
-    links: HashMap<u64, (u64, bool)>,
+    links: LastLinks,
 }
 
 impl Index {
@@ -180,12 +190,7 @@ impl Index {
                 *entry = (sequence, state);
             }
         }
-        for (child, _, unlinked) in found.links {
-            let entry = self.links.entry(child).or_insert((sequence, unlinked));
-            if entry.0 < sequence {
-                *entry = (sequence, unlinked);
-            }
-        }
+        self.links.add(sequence, found.links);
     }
 
     pub(super) fn get(&self, number: u64) -> Option<CurrentInode> {
@@ -198,8 +203,12 @@ impl Index {
         inodes.map(|(number, (volume, state))| self.current(*number, *volume, state))
     }
 
+    pub(super) fn last_link(&self, number: u64) -> Option<LastLink<'_>> {
+        self.links.get(number)
+    }
+
     fn current(&self, number: u64, volume: u64, state: &State) -> CurrentInode {
-        let link = self.links.get(&number);
+        let link = self.links.get(number);
         CurrentInode {
             number,
             volume,
@@ -214,7 +223,7 @@ impl Index {
             ctime: state.ctime,
             btime: state.btime,
             size: state.size,
-            unlinked: link.is_some_and(|(_, unlinked)| *unlinked),
+            unlinked: link.is_some_and(|link| link.taken_away),
         }
     }
 }

@@ -5,7 +5,7 @@ use std::io::Read;
 use std::path::{Path, PathBuf};
 use std::sync::Arc;
 
-use super::index::Found;
+use super::index::{Finder, Found};
 use super::pages::Digests;
 use super::scan::{scan, Scanned};
 use super::ArchiveError;
@@ -65,8 +65,8 @@ impl Member {
         self.scanned.heading.sequence
     }
 
-    /// The same volume with what is known about one inode only. Whoever wants a single file needs
-    /// much less memory so: an archive of such members has no other inodes.
+    /// The same volume with what is known about one inode only, its links included. Whoever wants a
+    /// single file needs much less memory so: an archive of such members has no other inodes.
     ///
     /// ```
     /// use hdrfs::{Archive, Checker};
@@ -146,9 +146,9 @@ impl Member {
         self.scanned.end
     }
 
-    /// The same volume without what is known about its inodes. Whoever wants to know whether volumes
-    /// are a set, and nothing more, needs much less memory so: an archive of such members has no
-    /// inodes.
+    /// The same volume without what is known about its inodes and links. Whoever wants to know
+    /// whether volumes are a set, and nothing more, needs much less memory so: an archive of such
+    /// members has no inodes.
     ///
     /// ```
     /// use hdrfs::{Archive, Checker};
@@ -256,9 +256,9 @@ impl Checker {
 
 /// Checks a volume, and finds its inodes and links on the way.
 fn check(path: &Path, volume: &[u8]) -> Result<(Scanned, Found), ArchiveError> {
-    let mut found = Found::default();
-    match scan(volume, |offset, block| found.visit(offset, block)) {
-        Ok(scanned) => Ok((scanned, found.finish())),
+    let mut finder = Finder::new(volume);
+    match scan(volume, |offset, block| finder.visit(offset, block)) {
+        Ok(scanned) => Ok((scanned, finder.finish())),
         Err(rejected) => Err(ArchiveError::rejected(path.to_path_buf(), rejected)),
     }
 }

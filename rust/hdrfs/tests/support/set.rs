@@ -6,7 +6,7 @@ use std::path::{Path, PathBuf};
 use std::process;
 use std::sync::atomic::{AtomicUsize, Ordering};
 
-use hdrfs::{Extent, Extents, Inode, Link, Logical, Physical, Refusal, Writer};
+use hdrfs::{Extent, Extents, Inode, Link, LinkList, Logical, Physical, Refusal, Writer};
 
 /// The file system ID of the volumes, where nothing else is said.
 pub const ID: [u8; 16] = *b"river gauges 019";
@@ -22,11 +22,38 @@ pub fn volume_of<T>(
     sequence: u64,
     write: impl FnOnce(&mut Draft<'_>) -> T,
 ) -> Vec<u8> {
+    drafted(id, sequence, &[], write)
+}
+
+/// A volume above 0 with a table of these links: child, parent and name.
+pub fn with_table<T>(
+    sequence: u64,
+    links: &[(u64, u64, &str)],
+    write: impl FnOnce(&mut Draft<'_>) -> T,
+) -> Vec<u8> {
+    drafted(ID, sequence, links, write)
+}
+
+fn drafted<T>(
+    id: [u8; 16],
+    sequence: u64,
+    links: &[(u64, u64, &str)],
+    write: impl FnOnce(&mut Draft<'_>) -> T,
+) -> Vec<u8> {
     let mut buf = vec![0; 400_000];
     let previous = [u8::from(sequence > 0); 32];
     let mut writer = Writer::create(&mut buf, &id, sequence, &previous).unwrap();
     if sequence > 0 {
-        writer.append_table(0, &[]).unwrap();
+        let mut table = LinkList::new();
+        for &(child, parent, name) in links {
+            let link = Link {
+                child,
+                parent,
+                name,
+            };
+            table = table.push(link).unwrap();
+        }
+        writer.append_links(&table).unwrap();
     }
     let mut draft = Draft { writer, time: 0 };
     write(&mut draft);
