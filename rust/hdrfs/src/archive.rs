@@ -299,7 +299,8 @@ impl Archive {
         ArchiveFile::open(self, self.block(number)?)
     }
 
-    /// Stored bytes, so many as the buffer has.
+    /// Stored bytes, so many as the buffer has. All of them have to lie in the volume: an empty
+    /// buffer is refused too where there is no such volume, or where the place is beyond its end.
     ///
     /// ```
     /// use hdrfs::{Archive, Physical, Stored};
@@ -312,6 +313,9 @@ impl Archive {
     /// # Ok::<(), Box<dyn std::error::Error>>(())
     /// ```
     pub fn read_at(&self, place: Stored, buf: &mut [u8]) -> Result<(), ArchiveError> {
+        if buf.is_empty() {
+            return store::empty_range(self, place);
+        }
         store::Parts::new(self).read(place, buf)
     }
 }

@@ -5,7 +5,7 @@ mod set;
 
 use std::io::Read;
 
-use hdrfs::{Archive, ArchiveError, Checker, FileType, Inode, Physical, Refusal};
+use hdrfs::{Archive, ArchiveError, Checker, FileType, Inode, Physical, Refusal, Stored};
 use set::{once, volume, volume_of, Folder, ID};
 
 /// The content of a file.
@@ -320,4 +320,30 @@ fn a_volume_above_4095_has_inodes_and_no_files() {
          be stored in"
     );
     assert_eq!(line, expected);
+}
+
+#[test]
+fn an_empty_buffer_is_refused_where_a_longer_one_would_have_no_volume_or_begin_beyond_it() {
+    let bytes = volume(1, |draft| draft.data(b"1,5"));
+    let end = bytes.len() as u64;
+    let archive = in_memory(&[bytes]).unwrap();
+    let read = |volume, offset, len| {
+        let offset = Physical(offset);
+        archive.read_at(Stored { volume, offset }, &mut vec![0; len])
+    };
+    for offset in [0, 97, end] {
+        read(1, offset, 0).unwrap();
+    }
+    for offset in [end + 1, u64::MAX] {
+        let [empty, longer] = [0, 1].map(|len| read(1, offset, len).unwrap_err().to_string());
+        assert_eq!(empty, longer);
+        assert_eq!(empty, format!("0: {}", Refusal::new(16, offset)));
+    }
+    for volume in [0, 2, u64::MAX] {
+        let error = read(volume, 0, 0).unwrap_err();
+        assert!(
+            matches!(error, ArchiveError::NoVolume { sequence } if sequence == volume),
+            "{error}"
+        );
+    }
 }

@@ -29,7 +29,7 @@ pub fn compare(rng: &mut Rng, both: &Both<'_>) -> Result<(), Difference> {
             1 => (length + rng.below(3)).saturating_sub(1),
             _ => rng.between(0, length),
         };
-        let room = rng.between(1, 200);
+        let room = rng.between(0, 200);
         let to = offset.checked_add(room).filter(|&to| to <= length);
         let part = to.and_then(|to| expected?.get(offset as usize..to as usize));
         place(both, volume, offset, room as usize, part)?;

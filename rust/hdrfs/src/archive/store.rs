@@ -5,7 +5,7 @@ use std::sync::Arc;
 use super::member::Stock;
 use super::pages::{Digests, PageError, PAGE_LEN};
 use super::{Archive, ArchiveError, Member};
-use crate::{Refusal, Stored};
+use crate::{Physical, Refusal, Stored};
 
 /// Bytes of a volume, in memory: all of it or a page.
 #[derive(Clone, Debug)]
@@ -67,18 +67,37 @@ impl<'a> Parts<'a> {
     }
 }
 
+/// Where in the archive's members a volume stands.
+fn index(archive: &Archive, sequence: u64) -> Result<usize, ArchiveError> {
+    let given = archive.places.get(&sequence).copied();
+    given.ok_or(ArchiveError::NoVolume { sequence })
+}
+
+/// What is said where a volume has no bytes at a place.
+fn beyond(member: &Member, offset: Physical) -> ArchiveError {
+    ArchiveError::Refused {
+        path: member.path.clone(),
+        refusal: Refusal::new(Refusal::NOT_THERE, offset.0),
+        blocks: None,
+    }
+}
+
+/// Refuses an empty range unless its volume was given and its place is not beyond the volume's end.
+pub(super) fn empty_range(archive: &Archive, place: Stored) -> Result<(), ArchiveError> {
+    let member = &archive.members[index(archive, place.volume)?];
+    if member.len() < place.offset.0 {
+        return Err(beyond(member, place.offset));
+    }
+    Ok(())
+}
+
 /// The bytes of a volume around a place, which has to lie within it.
 fn part(archive: &Archive, place: Stored) -> Result<Part, ArchiveError> {
     let Stored { volume, offset } = place;
-    let given = archive.places.get(&volume);
-    let index = *given.ok_or(ArchiveError::NoVolume { sequence: volume })?;
+    let index = index(archive, volume)?;
     let member = &archive.members[index];
     if member.len() <= offset.0 {
-        return Err(ArchiveError::Refused {
-            path: member.path.clone(),
-            refusal: Refusal::new(Refusal::NOT_THERE, offset.0),
-            blocks: None,
-        });
+        return Err(beyond(member, offset));
     }
     let (start, bytes) = match &member.stock {
         Stock::Kept(bytes) => (0, Arc::clone(bytes)),
