@@ -94,19 +94,22 @@ hdrfs inodes FILE.. [-j N] [--json]
 
 Prints the current state of every inode: its number, type and size, the volume
 and the offset of its block, the time of the block, when its content and when it
-was last changed, when it was made and last read, and whether the last that is
-said about a link to it is that it was taken away. Such a file can still be
-extracted.
+was last changed, when it was made and last read, and the last link to it: the
+name and the inode number of the folder that it stands in, and whether it was
+taken away. Such a file can still be extracted.
 
 The current state is the last one: in the volume with the highest sequence
 number that has the inode, the last block. So all volumes should be given, in
-any order.
+any order. The last link is found likewise, in link tables too. Renames are not
+followed: they have paths, and no inode numbers. A name of more than 255 bytes
+is cut, and .. stands behind it.
 
   -j N, --jobs N    check up to N volumes at a time (as many as there are
                     cores, if not given)
   --json            an object an inode: inode, type, size, volume, offset, mode,
                     uid, gid, time, atime, mtime, ctime, btime, and unlinked
-                    (true or false)
+                    (true or false); and if there is a last link: name, parent
+                    (its folder) and cut (true or false)
 
 Exit status: 0 done; 1 refused; 2 wrong use, or a file that cannot be read.
 ";

@@ -5,7 +5,7 @@ use std::fmt::{Display, Write};
 use std::num::NonZeroUsize;
 use std::path::PathBuf;
 
-use hdrfs::{Archive, CurrentInode, FileType};
+use hdrfs::{Archive, CurrentInode, FileType, LastLink};
 
 use crate::commands::Request;
 use crate::failure::{Failure, Status};
@@ -13,7 +13,7 @@ use crate::input;
 use crate::json::Object;
 use crate::output::Lines;
 use crate::set;
-use crate::text::count;
+use crate::text::{count, quoted};
 use crate::words::Words;
 
 #[derive(Debug)]
@@ -59,12 +59,27 @@ fn objects(archive: &Archive, lines: &mut Lines) -> Result<(), Failure> {
             .number("ctime", inode.ctime)
             .number("btime", inode.btime)
             .truth("unlinked", inode.unlinked);
+        let object = match archive.last_link(inode.number) {
+            Some(link) => object
+                .text("name", link.name)
+                .number("parent", link.parent)
+                .truth("cut", link.cut),
+            None => object,
+        };
         lines.put(&object.line())?;
     }
     Ok(())
 }
 
-/// The columns, the type aside.
+/// The name that an inode has or had last. It stands between quotes, so that nothing in it can look
+/// like what is said about it.
+fn name(link: &LastLink<'_>) -> String {
+    let cut = if link.cut { ".." } else { "" };
+    let gone = if link.taken_away { ", taken away" } else { "" };
+    format!("{}{cut} in {}{gone}", quoted(link.name), link.parent)
+}
+
+/// The columns, type and name aside.
 const NUMBERS: [&str; 9] = [
     "inode", "size", "volume", "offset", "time", "mtime", "ctime", "btime", "atime",
 ];
@@ -94,10 +109,11 @@ fn table(archive: &Archive, lines: &mut Lines) -> Result<(), Failure> {
         types.insert(inode.file_type());
     }
     let widths = Widths::new(most, types);
-    lines.put(&widths.row(NUMBERS, "type", "link"))?;
+    lines.put(&widths.row(NUMBERS, "type", "name"))?;
     for inode in archive.inodes() {
-        let link = if inode.unlinked { "taken away" } else { "" };
-        lines.put(&widths.row(numbers(&inode), inode.file_type(), link))?;
+        let link = archive.last_link(inode.number);
+        let name = link.map_or(String::new(), |link| name(&link));
+        lines.put(&widths.row(numbers(&inode), inode.file_type(), &name))?;
     }
     let all = archive.inodes().len() as u64;
     lines.put(&format!("{}\n", count(all, "inode")))

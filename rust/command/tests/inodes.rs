@@ -2,7 +2,7 @@
 
 mod support;
 
-use support::json::object;
+use support::json::{object, Object};
 use support::volumes::{data, file, header, inode, sealed, small_volume, table, Extent, FOLDER};
 use support::{of_file_system, Folder, NO_HASH, NO_ID};
 
@@ -163,10 +163,12 @@ fn set(name: &str) -> Folder {
 fn the_current_inodes() {
     let folder = set("inodes_current");
     let lines = [
-        "inode  type           size  volume  offset  time  mtime  ctime  btime  atime  link",
+        "inode  type           size  volume  offset  time  mtime  ctime  btime  atime  name",
         "    1  folder           70       1     116     1      4      5      6      3",
-        "    7  regular           3       1     191     2      4      5      6      3  taken away",
-        "    8  symbolic link    75       1     323     3      4      5      6      3",
+        "    7  regular           3       1     191     2      4      5      6      3  \"gauge\" in 1, \
+         taken away",
+        "    8  symbolic link    75       1     323     3      4      5      6      3  \
+         \"a \\\"b\\\"\\n\\u{202e}\\u{1b}[31m\" in 1",
         "  300  folder           70       0     236     9      4      5      6      3",
         "4 inodes",
     ];
@@ -202,9 +204,53 @@ fn inodes_for_machines() {
         ("ctime", 5.into()),
         ("btime", 6.into()),
         ("unlinked", true.into()),
+        ("name", "gauge".into()),
+        ("parent", 1.into()),
+        ("cut", false.into()),
     ]);
     assert_eq!(objects[1], regular);
+    assert_eq!(objects[2]["name"], "a \"b\"\n\u{202e}\u{1b}[31m".into());
     assert_eq!(objects[3]["unlinked"], false.into());
+    for key in ["name", "parent", "cut"] {
+        assert!(!objects[3].contains_key(key), "{key}");
+    }
+}
+
+/// What the last column says of inode 7, and what is said for machines.
+fn name_of_7(folder: &Folder, files: &str) -> (String, Object) {
+    let answer = folder.run(&format!("inodes {files}"));
+    let line = answer.out.lines().find(|line| line.starts_with("    7"));
+    let (_, name) = line.unwrap().split_once("      6      3  ").unwrap();
+    let objects = folder.run(&format!("inodes {files} --json")).objects();
+    let mut objects = objects.into_iter();
+    let object = objects.find(|object| object["inode"] == 7.into());
+    (name.to_string(), object.unwrap())
+}
+
+#[test]
+fn a_table_counts_as_links_before_the_other_blocks() {
+    let folder = set("inodes_table");
+    let later = [header(2), table(&[(7, 4, b"river"), (7, 5, b"again")])].concat();
+    folder.put("v2", &later);
+    let (name, object) = name_of_7(&folder, "v2 v1 v0");
+    assert_eq!(name, "\"again\" in 5");
+    assert_eq!(object["unlinked"], false.into());
+    folder.put("v2", &[later, link(UNLINK, 10, 7, 4, "river")].concat());
+    let (name, object) = name_of_7(&folder, "v0 v1 v2");
+    assert_eq!(name, "\"river\" in 4, taken away");
+    assert_eq!(object["unlinked"], true.into());
+}
+
+#[test]
+fn a_long_name_is_cut() {
+    let folder = set("inodes_long_name");
+    let long = "é".repeat(128);
+    let later = [header(2), table(&[(7, 1, long.as_bytes())])].concat();
+    folder.put("v2", &later);
+    let (name, object) = name_of_7(&folder, "v0 v1 v2");
+    assert_eq!(name, format!("\"{}\".. in 1", &long[..254]));
+    assert_eq!(object["name"], (&long[..254]).into());
+    assert_eq!(object["cut"], true.into());
 }
 
 #[test]

@@ -103,7 +103,25 @@ pub fn inode(inode: &Inode<'_>) -> Fields {
     }
     let taken_away = inode.last_link.is_some_and(|link| link.taken_away);
     fields.push(("unlinked", Json::Bool(taken_away)));
+    let (name, parent, cut) = match inode.last_link {
+        Some(link) => {
+            let (name, cut) = beginning(link.name);
+            (text(name), number(link.parent), Json::Bool(cut))
+        }
+        None => (Json::Null, Json::Null, Json::Null),
+    };
+    fields.extend([("name", name), ("parent", parent), ("cut", cut)]);
     fields
+}
+
+/// As many characters of a name as 255 bytes have room for, and whether there are more.
+fn beginning(name: &[u8]) -> (&str, bool) {
+    let name = std::str::from_utf8(name).expect("an accepted name is text");
+    let ends = name
+        .char_indices()
+        .map(|(at, letter)| at + letter.len_utf8());
+    let end = ends.take_while(|end| *end <= 255).last().unwrap_or(0);
+    (&name[..end], end < name.len())
 }
 
 /// A run, as the command shows it.
