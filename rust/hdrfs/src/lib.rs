@@ -5,7 +5,8 @@
 //! single volume copies nothing: names, payloads and stored bytes are parts of the volumes that the
 //! caller lends.
 //!
-//! - [`Archive`] is a set of volumes: it finds the current inodes, and reads their bytes.
+//! - [`Archive`] is a set of volumes: it finds the current inodes and their names, and reads their
+//!   bytes.
 //! - [`Volume::check`] checks a whole volume, [`Volume::blocks`] walks its blocks; a [`LinkTable`]
 //!   is walked link by link.
 //! - [`File`] says where the bytes of a regular file are stored: at a position, or in runs.
