@@ -231,7 +231,7 @@ impl<'a> Blocks<'a> {
     fn read(&self, mark: Bookmark) -> Result<Option<Block<'a>>, Refusal> {
         let (due, timed, last) = mark.numbers();
         let block = sys::read(self.volume, mark.offset, due, timed, last);
-        Refusal::unless_accepted(block.refusal, mark.offset)?;
+        Refusal::unless_accepted(&block, mark.offset)?;
         if block.end != 0 {
             return Ok(None);
         }

@@ -145,7 +145,7 @@ impl<'a> File<'a> {
     pub fn position(&self, position: Logical) -> Result<Place, Refusal> {
         let lengths = self.lengths.as_bytes();
         let place = sys::lookup(self.volume, self.offset, lengths, position.0);
-        Refusal::unless_accepted(place.refusal, self.told)?;
+        Refusal::unless_accepted(&place, self.told)?;
         Ok(match place.kind {
             sys::HOLE => Place::Hole,
             sys::STORED => Place::Stored(Stored {
@@ -196,7 +196,7 @@ impl<'a> File<'a> {
     pub(crate) fn ask(&self, from: u64, to: u64, out: &mut [u64]) -> Result<usize, Refusal> {
         let lengths = self.lengths.as_bytes();
         let answer = sys::runs(self.volume, self.offset, lengths, from, to, out);
-        Refusal::unless_accepted(answer.refusal, self.told)?;
+        Refusal::unless_accepted(&answer, self.told)?;
         Ok(answer.count as usize)
     }
 }

@@ -3,6 +3,8 @@
 use std::error::Error;
 use std::fmt;
 
+use crate::sys;
+
 /// A refusal: its number, and where the header or block at fault begins.
 ///
 /// The numbers mean the same in every call. They are the constants below, with what
@@ -123,14 +125,32 @@ impl Refusal {
         Refusal { number, offset }
     }
 
-    /// Nothing where the number is 0, the mark of an accepted call; else an error.
-    pub(crate) fn unless_accepted(number: u64, offset: u64) -> Result<(), Refusal> {
-        match number {
+    /// Nothing where the number of an answer is 0, the mark of an accepted call; else an error.
+    pub(crate) fn unless_accepted(answer: &impl Answer, offset: u64) -> Result<(), Refusal> {
+        match answer.refusal() {
             0 => Ok(()),
-            _ => Err(Refusal::new(number, offset)),
+            number => Err(Refusal::new(number, offset)),
         }
     }
 }
+
+/// What a call of the library answers, as far as it is about a refusal.
+pub(crate) trait Answer {
+    /// The number, 0 where there is none.
+    fn refusal(&self) -> u64;
+}
+
+macro_rules! answers {
+    ($($name:ident)*) => {$(
+        impl Answer for sys::$name {
+            fn refusal(&self) -> u64 {
+                self.refusal
+            }
+        }
+    )*};
+}
+
+answers! { Block Checked Heading Place RunCount Source Written }
 
 impl fmt::Display for Refusal {
     fn fmt(&self, f: &mut fmt::Formatter<'_>) -> fmt::Result {

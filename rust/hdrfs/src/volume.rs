@@ -36,7 +36,7 @@ impl Volume {
     /// ```
     pub fn check(volume: &[u8]) -> Result<Checked<'_>, Rejected> {
         let answer = sys::check(volume);
-        Refusal::unless_accepted(answer.refusal, answer.offset)
+        Refusal::unless_accepted(&answer, answer.offset)
             .map_err(|refusal| Rejected::new(refusal, answer.blocks))?;
         Ok(Checked {
             volume,
@@ -60,7 +60,7 @@ impl Volume {
     /// ```
     pub fn header(volume: &[u8]) -> Result<Heading, Refusal> {
         let answer = sys::header(volume);
-        Refusal::unless_accepted(answer.refusal, 0)?;
+        Refusal::unless_accepted(&answer, 0)?;
         Ok(Heading {
             id: header_part(volume, answer.id),
             sequence: answer.sequence,

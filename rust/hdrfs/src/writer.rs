@@ -263,7 +263,7 @@ impl<'a> Writer<'a> {
 
 /// The bookmark after what was written at `offset`.
 fn after(written: sys::Written, offset: u64) -> Result<Bookmark, Refusal> {
-    Refusal::unless_accepted(written.refusal, offset)?;
+    Refusal::unless_accepted(&written, offset)?;
     let (next, due) = (written.next, written.due);
     let (timed, last) = (written.timed, written.last);
     Ok(Bookmark::from_numbers(next, due, timed, last))

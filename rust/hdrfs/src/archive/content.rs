@@ -141,7 +141,8 @@ impl<'a> Content<'a> {
     /// end of the file.
     pub(super) fn hole(&mut self, position: u64) -> Result<u64, ArchiveError> {
         let rows = self.pieces.rows(position);
-        Ok(match rows.map_err(|refusal| refused(self.path, refusal))? {
+        let rows = rows.map_err(|refusal| ArchiveError::refused(self.path, refusal))?;
+        Ok(match rows {
             [[start, len, kind, ..], ..] if *kind != sys::STORED => len - (position - start),
             _ => 0,
         })
@@ -176,7 +177,7 @@ impl<'a> Content<'a> {
         holes: Holes,
     ) -> Result<usize, ArchiveError> {
         let rows = self.pieces.rows(position);
-        let rows = rows.map_err(|refusal| refused(self.path, refusal))?;
+        let rows = rows.map_err(|refusal| ArchiveError::refused(self.path, refusal))?;
         let mut done = 0;
         for [start, len, kind, volume, offset] in rows {
             let before = position + done as u64 - start;
@@ -203,14 +204,5 @@ impl<'a> Content<'a> {
             }
         }
         Ok(done)
-    }
-}
-
-fn refused(path: &Path, refusal: Refusal) -> ArchiveError {
-    let path = path.to_path_buf();
-    ArchiveError::Refused {
-        path,
-        refusal,
-        blocks: None,
     }
 }

@@ -3,7 +3,7 @@
 use std::error::Error;
 use std::fmt;
 use std::io;
-use std::path::PathBuf;
+use std::path::{Path, PathBuf};
 
 use crate::{Extent, Refusal, Rejected};
 
@@ -118,6 +118,15 @@ pub struct ShortExtent {
 impl ArchiveError {
     pub(crate) fn io(path: PathBuf, error: io::Error) -> ArchiveError {
         ArchiveError::Io { path, error }
+    }
+
+    /// Something asked of a checked volume is refused.
+    pub(crate) fn refused(path: &Path, refusal: Refusal) -> ArchiveError {
+        ArchiveError::Refused {
+            path: path.to_path_buf(),
+            refusal,
+            blocks: None,
+        }
     }
 
     pub(crate) fn rejected(path: PathBuf, rejected: Rejected) -> ArchiveError {

@@ -113,11 +113,7 @@ impl<'a> ArchiveFile<'a> {
             Err(refusal) if refusal.number == Refusal::NOT_THERE => Err(ArchiveError::Missing(
                 lack::missing(archive, &file.block.inode()),
             )),
-            Err(refusal) => Err(ArchiveError::Refused {
-                path: file.path().to_path_buf(),
-                refusal,
-                blocks: None,
-            }),
+            Err(refusal) => Err(ArchiveError::refused(file.path(), refusal)),
         }
     }
 

@@ -26,7 +26,7 @@ pub(crate) fn scan(
     loop {
         let (due, timed, last) = mark.numbers();
         let block = sys::read(volume, mark.offset, due, timed, last);
-        Refusal::unless_accepted(block.refusal, mark.offset)
+        Refusal::unless_accepted(&block, mark.offset)
             .map_err(|refusal| rejected(refusal, blocks))?;
         if block.end != 0 {
             return Ok(Scanned {

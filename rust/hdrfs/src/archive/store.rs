@@ -75,11 +75,7 @@ fn index(archive: &Archive, sequence: u64) -> Result<usize, ArchiveError> {
 
 /// What is said where a volume has no bytes at a place.
 fn beyond(member: &Member, offset: Physical) -> ArchiveError {
-    ArchiveError::Refused {
-        path: member.path.clone(),
-        refusal: Refusal::new(Refusal::NOT_THERE, offset.0),
-        blocks: None,
-    }
+    ArchiveError::refused(&member.path, Refusal::new(Refusal::NOT_THERE, offset.0))
 }
 
 /// Refuses an empty range unless its volume was given and its place is not beyond the volume's end.

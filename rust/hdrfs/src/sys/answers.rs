@@ -47,7 +47,7 @@ pub struct Place {
 ///
 /// ```
 /// let three_bytes_of_lengths = hdrfs::sys::runs(&[], 80, &[0; 3], 0, 9, &mut []);
-/// assert_eq!(three_bytes_of_lengths, hdrfs::sys::RunCount { refusal: 9, count: 0 });
+/// assert_eq!(three_bytes_of_lengths, hdrfs::sys::RunCount { refusal: 9, ..Default::default() });
 /// ```
 #[repr(C)]
 #[derive(Clone, Copy, Debug, Default, PartialEq, Eq)]
@@ -195,7 +195,7 @@ pub struct ExtentEntry {
 ///
 /// ```
 /// let nothing = hdrfs::sys::fetch(&[], &[], 0, 0, 0);
-/// assert_eq!(nothing, hdrfs::sys::Source { refusal: 2, which: 0 });
+/// assert_eq!(nothing, hdrfs::sys::Source { refusal: 2, ..Default::default() });
 /// ```
 #[repr(C)]
 #[derive(Clone, Copy, Debug, Default, PartialEq, Eq)]
