@@ -3,6 +3,7 @@
 use std::fmt;
 use std::iter::FusedIterator;
 
+use crate::bookmark::Numbers;
 use crate::{sys, Bookmark, Inode, Link, LinkTable, Refusal, Volume};
 
 /// The part of a volume at an offset that the library handed out.
@@ -19,6 +20,19 @@ pub(crate) fn text(bytes: &[u8]) -> &str {
     std::str::from_utf8(bytes).expect("text of an accepted block is UTF-8")
 }
 
+/// What the library says of the block at a bookmark, a refusal and the end included. The answer is
+/// long: to put it into a `Result` made the check of a volume of small blocks a third slower.
+#[inline]
+pub(crate) fn read(volume: &[u8], mark: Bookmark) -> sys::Block {
+    let Numbers {
+        offset,
+        due,
+        timed,
+        last,
+    } = mark.numbers();
+    sys::read(volume, offset, due, timed, last)
+}
+
 /// A block of a volume.
 ///
 /// ```
@@ -31,6 +45,7 @@ pub(crate) fn text(bytes: &[u8]) -> &str {
 /// assert_eq!(block.content, Content::Data { payload: b"1,5" });
 /// # Ok::<(), Box<dyn std::error::Error>>(())
 /// ```
+#[non_exhaustive]
 #[derive(Clone, Copy, Debug, PartialEq, Eq)]
 pub struct Block<'a> {
     /// Where it begins in the volume.
@@ -229,8 +244,7 @@ impl<'a> Blocks<'a> {
 
     /// The block at a bookmark, or nothing at the end.
     fn read(&self, mark: Bookmark) -> Result<Option<Block<'a>>, Refusal> {
-        let (due, timed, last) = mark.numbers();
-        let block = sys::read(self.volume, mark.offset, due, timed, last);
+        let block = read(self.volume, mark);
         Refusal::unless_accepted(&block, mark.offset)?;
         if block.end != 0 {
             return Ok(None);
@@ -241,7 +255,7 @@ impl<'a> Blocks<'a> {
             offset: mark.offset,
             id: block.id,
             time: has_time.then_some(block.time),
-            next: Bookmark::from_numbers(block.next, block.due, block.timed, block.last),
+            next: Bookmark::after(&block),
             content,
         }))
     }

@@ -1,5 +1,7 @@
 //! Where reading or writing stands.
 
+use crate::sys;
+
 /// A place between two blocks, from which reading or writing goes on.
 ///
 /// One that is made up is served like any other; see [`Blocks::at`](crate::Blocks::at) and
@@ -11,9 +13,10 @@
 ///
 /// let bytes = std::fs::read("v.vol")?;
 /// let end = Volume::check(&bytes)?.end();
-/// assert_eq!(end, Bookmark { offset: 104, table_due: false, last_time: Some(7) });
+/// assert_eq!(end, Bookmark::at(104).with_last_time(Some(7)));
 /// # Ok::<(), Box<dyn std::error::Error>>(())
 /// ```
+#[non_exhaustive]
 #[derive(Clone, Copy, Debug, PartialEq, Eq, Hash)]
 pub struct Bookmark {
     /// Where the next block begins.
@@ -25,20 +28,79 @@ pub struct Bookmark {
 }
 
 impl Bookmark {
-    /// A bookmark from the numbers that the library hands out.
-    pub(crate) fn from_numbers(offset: u64, due: u64, timed: u64, time: u64) -> Bookmark {
+    /// A made-up bookmark: a place where no link table is due and before which there was no time.
+    ///
+    /// ```
+    /// let mark = hdrfs::Bookmark::at(80);
+    /// assert_eq!((mark.offset, mark.table_due, mark.last_time), (80, false, None));
+    /// ```
+    #[must_use]
+    pub const fn at(offset: u64) -> Bookmark {
         Bookmark {
             offset,
-            table_due: due != 0,
-            last_time: (timed != 0).then_some(time),
+            table_due: false,
+            last_time: None,
         }
     }
 
-    /// The numbers that the library takes for it, beside the offset: whether a table is due, whether
-    /// there is a last time, and it.
-    pub(crate) fn numbers(&self) -> (u64, u64, u64) {
-        let due = u64::from(self.table_due);
-        let timed = u64::from(self.last_time.is_some());
-        (due, timed, self.last_time.unwrap_or(0))
+    /// The same place, where a link table is due or not.
+    ///
+    /// ```
+    /// assert!(hdrfs::Bookmark::at(80).with_table_due(true).table_due);
+    /// ```
+    #[must_use]
+    pub const fn with_table_due(self, table_due: bool) -> Bookmark {
+        Bookmark { table_due, ..self }
     }
+
+    /// The same place after another last time.
+    ///
+    /// ```
+    /// assert_eq!(hdrfs::Bookmark::at(80).with_last_time(Some(0)).last_time, Some(0));
+    /// ```
+    #[must_use]
+    pub const fn with_last_time(self, last_time: Option<u64>) -> Bookmark {
+        Bookmark { last_time, ..self }
+    }
+
+    /// The bookmark with the numbers that the library hands out.
+    pub(crate) fn from_numbers(numbers: Numbers) -> Bookmark {
+        Bookmark {
+            offset: numbers.offset,
+            table_due: numbers.due != 0,
+            last_time: (numbers.timed != 0).then_some(numbers.last),
+        }
+    }
+
+    /// The bookmark after an accepted block.
+    pub(crate) fn after(block: &sys::Block) -> Bookmark {
+        Bookmark::from_numbers(Numbers {
+            offset: block.next,
+            due: block.due,
+            timed: block.timed,
+            last: block.last,
+        })
+    }
+
+    /// The numbers that the library takes for it.
+    pub(crate) fn numbers(&self) -> Numbers {
+        Numbers {
+            offset: self.offset,
+            due: u64::from(self.table_due),
+            timed: u64::from(self.last_time.is_some()),
+            last: self.last_time.unwrap_or(0),
+        }
+    }
+}
+
+/// A bookmark as the library takes it and hands it out.
+#[derive(Clone, Copy, Debug)]
+pub(crate) struct Numbers {
+    pub(crate) offset: u64,
+    /// 0: no link table is due.
+    pub(crate) due: u64,
+    /// 0: there is no last time.
+    pub(crate) timed: u64,
+    /// See `timed`.
+    pub(crate) last: u64,
 }

@@ -3,6 +3,7 @@
 use std::fmt;
 
 use crate::blocks::part;
+use crate::bookmark::Numbers;
 use crate::{sys, Blocks, Bookmark, File, Lengths, Refusal, Rejected};
 
 /// The most bytes that a volume may have. Whoever reads a file needs to read only one more to have
@@ -42,7 +43,12 @@ impl Volume {
             volume,
             sequence: answer.sequence,
             blocks: answer.blocks,
-            end: Bookmark::from_numbers(answer.offset, 0, answer.timed, answer.time),
+            end: Bookmark::from_numbers(Numbers {
+                offset: answer.offset,
+                due: 0,
+                timed: answer.timed,
+                last: answer.time,
+            }),
         })
     }
 
@@ -65,7 +71,7 @@ impl Volume {
             id: header_part(volume, answer.id),
             sequence: answer.sequence,
             previous: header_part(volume, answer.previous),
-            next: Bookmark::from_numbers(answer.next, answer.due, 0, 0),
+            next: Bookmark::at(answer.next).with_table_due(answer.due != 0),
         })
     }
 

@@ -2,6 +2,7 @@
 
 use std::fmt;
 
+use crate::bookmark::Numbers;
 use crate::{sys, Bookmark, Inode, Link, LinkList, Refusal};
 
 /// A volume that is being written: a buffer, and the bookmark up to which it is written.
@@ -31,8 +32,7 @@ macro_rules! appends {
     ($($(#[$doc:meta])* $name:ident($($argument:ident: $type:ty),*) calls $call:ident($($value:expr),*);)*) => {$(
         $(#[$doc])*
         pub fn $name(&mut self, $($argument: $type),*) -> Result<(), Refusal> {
-            let offset = self.mark.offset;
-            let (due, timed, last) = self.mark.numbers();
+            let Numbers { offset, due, timed, last } = self.mark.numbers();
             let written = sys::$call(self.buf, offset, due, timed, last, $($value),*);
             self.mark = after(written, offset)?;
             Ok(())
@@ -94,7 +94,7 @@ impl<'a> Writer<'a> {
     /// let mut buf = [0; 200];
     /// let mut writer = Writer::create(&mut buf, &[1; 16], 0, &[0; 32])?;
     /// writer.append_data(7, b"1,5")?;
-    /// let mark = Bookmark { offset: 104, table_due: false, last_time: Some(7) };
+    /// let mark = Bookmark::at(104).with_last_time(Some(7));
     /// assert_eq!(writer.bookmark(), mark);
     /// assert_eq!(writer.append_data(7, b"1,6").unwrap_err().number, 14);
     /// assert_eq!(writer.bookmark(), mark);
@@ -264,9 +264,12 @@ impl<'a> Writer<'a> {
 /// The bookmark after what was written at `offset`.
 fn after(written: sys::Written, offset: u64) -> Result<Bookmark, Refusal> {
     Refusal::unless_accepted(&written, offset)?;
-    let (next, due) = (written.next, written.due);
-    let (timed, last) = (written.timed, written.last);
-    Ok(Bookmark::from_numbers(next, due, timed, last))
+    Ok(Bookmark::from_numbers(Numbers {
+        offset: written.next,
+        due: written.due,
+        timed: written.timed,
+        last: written.last,
+    }))
 }
 
 /// Without the bytes, which may be many millions.

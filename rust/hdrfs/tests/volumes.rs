@@ -160,11 +160,7 @@ fn time_0_is_not_no_time() {
 #[test]
 fn the_header_says_whether_a_table_is_due() {
     for sequence in [0, 1, u64::MAX] {
-        let next = Bookmark {
-            offset: 80,
-            table_due: sequence > 0,
-            last_time: None,
-        };
+        let next = Bookmark::at(80).with_table_due(sequence > 0);
         let heading = Volume::header(&header(sequence)).unwrap();
         assert_eq!((heading.sequence, heading.next), (sequence, next));
     }
@@ -204,10 +200,10 @@ fn an_empty_table_has_no_links() {
 #[test]
 fn made_up_bookmarks_are_served() {
     let volume = [small_volume(), table(&[]), inode(9, 3, FOLDER, 70, &[])].concat();
-    let mark = |offset, table_due, last_time| Bookmark {
-        offset,
-        table_due,
-        last_time,
+    let mark = |offset, table_due, last_time| {
+        Bookmark::at(offset)
+            .with_table_due(table_due)
+            .with_last_time(last_time)
     };
     let first = |mark| Blocks::at(&volume, mark).next();
     let number = |mark| {

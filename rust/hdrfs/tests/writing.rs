@@ -181,11 +181,9 @@ fn made_up_bookmarks_are_served() {
             0 => edges[numbers.below(edges.len() as u64) as usize],
             _ => numbers.below(200),
         };
-        let mark = Bookmark {
-            offset,
-            table_due: numbers.below(2) == 1,
-            last_time: (numbers.below(2) == 1).then_some(numbers.below(3)),
-        };
+        let mark = Bookmark::at(offset)
+            .with_table_due(numbers.below(2) == 1)
+            .with_last_time((numbers.below(2) == 1).then_some(numbers.below(3)));
         let mut writer = Writer::at(&mut buf, mark);
         let answer = writer.append_data(1, b"");
         let fits = (80..=129).contains(&offset);

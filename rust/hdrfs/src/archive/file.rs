@@ -11,7 +11,7 @@ use crate::{Place, Refusal, Runs, Stored};
 
 /// How many bytes stand before the first block of a volume. Nothing about a block depends on them
 /// or on its offset, but no block begins earlier.
-const HEADER_LEN: usize = 80;
+pub(super) const HEADER_LEN: usize = 80;
 
 /// An inode block out of an archive, in memory.
 ///
@@ -67,12 +67,7 @@ impl InodeBlock {
     /// ```
     #[must_use]
     pub fn inode(&self) -> Inode<'_> {
-        let mark = Bookmark {
-            offset: HEADER_LEN as u64,
-            table_due: false,
-            last_time: None,
-        };
-        match Blocks::at(&self.bytes, mark).next() {
+        match Blocks::at(&self.bytes, Bookmark::at(HEADER_LEN as u64)).next() {
             Some(Ok(Block {
                 content: Said::Inode(inode),
                 ..

@@ -4,6 +4,7 @@
 //! alone, as the only extent of a file: so the library decides here too, and nothing is worked out
 //! a second time.
 
+use super::file::HEADER_LEN;
 use super::{Archive, Missing, ShortExtent};
 use crate::{Bookmark, Extent, Extents, File, Inode, Logical, Refusal, Writer};
 
@@ -40,16 +41,12 @@ fn is_there(archive: &Archive, extent: Extent) -> bool {
         rest: extents.as_bytes(),
         ..Inode::regular(0)
     };
-    let mut buf = [0; 80 + 75 + 57];
-    let first = Bookmark {
-        offset: 80,
-        table_due: false,
-        last_time: None,
-    };
-    Writer::at(&mut buf, first)
+    let mut buf = [0; HEADER_LEN + 75 + 57];
+    let offset = HEADER_LEN as u64;
+    Writer::at(&mut buf, Bookmark::at(offset))
         .append_inode(0, &inode)
         .expect("an extent that was accepted is accepted alone");
-    match File::new(&buf, 80, &archive.lengths).position(Logical(0)) {
+    match File::new(&buf, offset, &archive.lengths).position(Logical(0)) {
         Ok(_) => true,
         Err(refusal) => refusal.number != Refusal::NOT_THERE,
     }

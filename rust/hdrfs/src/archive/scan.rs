@@ -1,5 +1,6 @@
 //! One walk over a volume: its check, and on the way where its inodes and links are.
 
+use crate::blocks::read;
 use crate::{sys, Bookmark, Heading, Refusal, Rejected, Volume};
 
 /// What a sound volume says of itself.
@@ -20,14 +21,12 @@ pub(crate) fn scan(
     mut visit: impl FnMut(u64, &sys::Block),
 ) -> Result<Scanned, Rejected> {
     let mut blocks = 0;
-    let rejected = |refusal, blocks| Rejected::new(refusal, blocks);
-    let heading = Volume::header(volume).map_err(|refusal| rejected(refusal, 0))?;
+    let heading = Volume::header(volume).map_err(|refusal| Rejected::new(refusal, 0))?;
     let mut mark = heading.next;
     loop {
-        let (due, timed, last) = mark.numbers();
-        let block = sys::read(volume, mark.offset, due, timed, last);
+        let block = read(volume, mark);
         Refusal::unless_accepted(&block, mark.offset)
-            .map_err(|refusal| rejected(refusal, blocks))?;
+            .map_err(|refusal| Rejected::new(refusal, blocks))?;
         if block.end != 0 {
             return Ok(Scanned {
                 heading,
@@ -37,7 +36,7 @@ pub(crate) fn scan(
         }
         visit(mark.offset, &block);
         blocks += 1;
-        mark = Bookmark::from_numbers(block.next, block.due, block.timed, block.last);
+        mark = Bookmark::after(&block);
     }
 }
 
