@@ -1,64 +1,62 @@
 //! How often each answer was compared.
 
+use independent::refusal::LARGEST;
+
 /// One count for each refusal number; 0 stands for no refusal.
-pub type Numbers = [u64; 19];
+pub type Numbers = [u64; LARGEST + 1];
 
-/// The refusal numbers that each call can give. 18 cannot occur, since a kept byte needs a block of
-/// at least one byte. A lookup reads no header and has no table due and no last time, so 3, 4, 6, 13
-/// and 14 stay out; a reading by a bookmark reads no header either.
-const CHECK: &[usize] = &[0, 1, 2, 3, 4, 5, 6, 7, 8, 9, 10, 11, 12, 13, 14];
-const HEADER: &[usize] = &[0, 1, 2, 3, 4, 5, 6];
-const READ: &[usize] = &[0, 1, 2, 5, 7, 8, 9, 10, 11, 12, 13, 14];
-const LOOKUP: &[usize] = &[0, 1, 2, 5, 7, 8, 9, 10, 11, 12, 15, 16];
-const RUNS: &[usize] = &[0, 1, 2, 5, 7, 8, 9, 10, 11, 12, 15, 16, 17];
-const FETCH: &[usize] = &[0, 1, 2, 3, 4, 5, 6, 16];
+/// The calls, each with the refusal numbers that it can give.
+macro_rules! tally {
+    ($($call:ident: $possible:expr;)*) => {
+        /// What was compared, call by call.
+        #[derive(Clone, Debug, Default)]
+        pub struct Tally {
+            $(pub $call: Numbers,)*
+            /// Holes, stored bytes and positions past the end.
+            pub kinds: [u64; 3],
+        }
 
-/// What was compared, call by call.
-#[derive(Clone, Debug, Default)]
-pub struct Tally {
-    pub check: Numbers,
-    pub header: Numbers,
-    pub read: Numbers,
-    pub lookup: Numbers,
-    pub runs: Numbers,
-    pub fetch: Numbers,
-    /// Holes, stored bytes and positions past the end.
-    pub kinds: [u64; 3],
+        impl Tally {
+            /// Adds the counts of another.
+            pub fn add(&mut self, other: &Tally) {
+                $(add(&mut self.$call, &other.$call);)*
+                add(&mut self.kinds, &other.kinds);
+            }
+
+            /// The calls with what was counted of them and what can occur.
+            fn calls(&self) -> Vec<(&'static str, &Numbers, &'static [usize])> {
+                vec![$((stringify!($call), &self.$call, &$possible)),*]
+            }
+
+            /// A tally in which everything that can occur came once.
+            #[cfg(test)]
+            fn full() -> Tally {
+                let mut tally = Tally {
+                    kinds: [1; 3],
+                    ..Tally::default()
+                };
+                $(for number in $possible {
+                    tally.$call[number] = 1;
+                })*
+                tally
+            }
+        }
+    };
+}
+
+// 18 cannot occur, since a kept byte needs a block of at least one byte. A lookup reads no header and
+// has no table due and no last time, so 3, 4, 6, 13 and 14 stay out; a reading by a bookmark reads no
+// header either.
+tally! {
+    check: [0, 1, 2, 3, 4, 5, 6, 7, 8, 9, 10, 11, 12, 13, 14];
+    header: [0, 1, 2, 3, 4, 5, 6];
+    read: [0, 1, 2, 5, 7, 8, 9, 10, 11, 12, 13, 14];
+    lookup: [0, 1, 2, 5, 7, 8, 9, 10, 11, 12, 15, 16];
+    runs: [0, 1, 2, 5, 7, 8, 9, 10, 11, 12, 15, 16, 17];
+    fetch: [0, 1, 2, 3, 4, 5, 6, 16];
 }
 
 impl Tally {
-    /// Adds the counts of another.
-    pub fn add(&mut self, other: &Tally) {
-        let Tally {
-            check,
-            header,
-            read,
-            lookup,
-            runs,
-            fetch,
-            kinds,
-        } = other;
-        add(&mut self.check, check);
-        add(&mut self.header, header);
-        add(&mut self.read, read);
-        add(&mut self.lookup, lookup);
-        add(&mut self.runs, runs);
-        add(&mut self.fetch, fetch);
-        add(&mut self.kinds, kinds);
-    }
-
-    /// The calls with what was counted of them and what can occur.
-    fn calls(&self) -> [(&'static str, &Numbers, &'static [usize]); 6] {
-        [
-            ("check", &self.check, CHECK),
-            ("header", &self.header, HEADER),
-            ("read", &self.read, READ),
-            ("lookup", &self.lookup, LOOKUP),
-            ("runs", &self.runs, RUNS),
-            ("fetch", &self.fetch, FETCH),
-        ]
-    }
-
     /// Answers that can occur and were not compared, or the other way round.
     #[must_use]
     pub fn faults(&self) -> Vec<String> {
@@ -85,7 +83,7 @@ impl Tally {
         for (name, _, _) in self.calls() {
             text += &format!("{name:>10}");
         }
-        for number in 0..19 {
+        for number in 0..=LARGEST {
             text += &format!("\n{number:6}");
             for (_, numbers, _) in self.calls() {
                 text += &format!("{:10}", numbers[number]);
@@ -104,36 +102,24 @@ fn add<const N: usize>(sum: &mut [u64; N], other: &[u64; N]) {
 
 #[cfg(test)]
 mod tests {
-    use super::Tally;
+    use super::{Tally, LARGEST};
+    use hdrfs::Refusal;
 
-    /// A tally in which everything that can occur came once.
-    fn full() -> Tally {
-        let mut tally = Tally {
-            kinds: [1; 3],
-            ..Tally::default()
-        };
-        let possible = tally.calls().map(|(_, _, possible)| possible);
-        let fill = |numbers: &mut [u64; 19], call: usize| {
-            for &number in possible[call] {
-                numbers[number] = 1;
-            }
-        };
-        fill(&mut tally.check, 0);
-        fill(&mut tally.header, 1);
-        fill(&mut tally.read, 2);
-        fill(&mut tally.lookup, 3);
-        fill(&mut tally.runs, 4);
-        fill(&mut tally.fetch, 5);
-        tally
+    /// The proved library has words for the number, and for none above it.
+    #[test]
+    fn both_have_the_same_largest_number() {
+        let words = |number| Refusal::new(number, 0).words();
+        let known = (0..100).filter(|number| words(*number) != words(u64::MAX));
+        assert_eq!(known.max(), Some(LARGEST as u64));
     }
 
     #[test]
     fn what_is_missing_is_told() {
-        assert!(full().faults().is_empty());
-        let mut less = full();
+        assert!(Tally::full().faults().is_empty());
+        let mut less = Tally::full();
         less.runs[17] = 0;
         assert_eq!(less.faults(), ["runs: answer 17 came 0 times"]);
-        let mut more = full();
+        let mut more = Tally::full();
         more.lookup[18] = 3;
         assert_eq!(more.faults(), ["lookup: answer 18 came 3 times"]);
         assert_eq!(

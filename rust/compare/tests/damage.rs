@@ -23,7 +23,7 @@ where
         let draft = small::volume(number);
         work(&draft, counts).map_err(|told| format!("small volume {number}: {told}"))
     });
-    let mut sum = [0; 19];
+    let mut sum = Numbers::default();
     for counts in counts.unwrap_or_else(|told| panic!("{told}")) {
         for (number, count) in counts.iter().enumerate() {
             sum[number] += count;

@@ -4,9 +4,11 @@
 
 use compare::requests::{request, Request};
 use compare::seeds::{Seeds, USUAL};
+use compare::tally::Numbers;
 use compare::writing::{append, header, made_up};
 use generator::rng::Rng;
 use hdrfs::sys;
+use independent::refusal::LARGEST;
 use independent::Bookmark;
 
 /// The numbers that an append can give, and those that the header writer can.
@@ -15,8 +17,8 @@ const HEADER: [usize; 4] = [0, 6, 11, 17];
 
 #[derive(Default)]
 struct Counts {
-    append: [u64; 19],
-    header: [u64; 19],
+    append: Numbers,
+    header: Numbers,
 }
 
 /// A time that is mostly later than the last one, so that lists get long.
@@ -86,10 +88,10 @@ fn appends_agree() {
         list(&mut rng, counts).map_err(|told| format!("seed {seed}: {told}"))
     });
     let counted = counted.unwrap_or_else(|told| panic!("{told}"));
-    let sum = |of: fn(&Counts) -> &[u64; 19], number: usize| -> u64 {
+    let sum = |of: fn(&Counts) -> &Numbers, number: usize| -> u64 {
         counted.iter().map(|counts| of(counts)[number]).sum()
     };
-    for number in 0..19 {
+    for number in 0..=LARGEST {
         let appends = sum(|counts| &counts.append, number);
         let headers = sum(|counts| &counts.header, number);
         println!("{number}: {appends} appends, {headers} headers");

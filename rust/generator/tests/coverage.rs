@@ -2,18 +2,22 @@
 //! making are the ones given.
 
 use generator::{case, describe, edges, Case, Expected};
+use independent::refusal::LARGEST;
 use independent::{check, fetch, lookup, read, runs, Bookmark, Place, Reading, Verdict};
 
 const SEEDS: u64 = 20_000;
 
-/// How often each answer was given; 0 stands for no refusal.
+/// One count for each refusal number; 0 stands for no refusal.
+type Numbers = [u64; LARGEST + 1];
+
+/// How often each answer was given.
 #[derive(Default)]
 struct Counts {
-    check: [u64; 19],
-    read: [u64; 19],
-    lookup: [u64; 19],
-    runs: [u64; 19],
-    fetch: [u64; 19],
+    check: Numbers,
+    read: Numbers,
+    lookup: Numbers,
+    runs: Numbers,
+    fetch: Numbers,
     holes: u64,
     stored: u64,
     past_end: u64,
@@ -75,7 +79,7 @@ impl Counts {
 
     fn print(&self) {
         println!("number     check      read    lookup      runs     fetch");
-        for k in 0..19 {
+        for k in 0..=LARGEST {
             println!(
                 "{k:6} {:9} {:9} {:9} {:9} {:9}",
                 self.check[k], self.read[k], self.lookup[k], self.runs[k], self.fetch[k]
@@ -110,7 +114,7 @@ fn compare(case: &Case, verdict: Verdict) {
 }
 
 /// Fails unless exactly these refusals were reached.
-fn reached(name: &str, counts: &[u64; 19], expected: &[usize]) {
+fn reached(name: &str, counts: &Numbers, expected: &[usize]) {
     for (k, &count) in counts.iter().enumerate() {
         assert_eq!(count > 0, expected.contains(&k), "{name}, refusal {k}");
     }

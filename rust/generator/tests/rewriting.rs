@@ -1,6 +1,7 @@
 //! What is read can be written again, and what is not read cannot.
 
 use generator::{case, describe, Case, Expected};
+use independent::refusal::LARGEST;
 use independent::*;
 
 /// Appends the block whose bytes these are, from its fields as they stand.
@@ -101,7 +102,7 @@ fn accepted_volumes_afresh() {
 
 #[test]
 fn faulty_blocks_are_not_written() {
-    let mut seen = [0; 19];
+    let mut seen = [0; LARGEST + 1];
     for seed in 0..6_000 {
         let case = case(seed);
         let Expected::Refused {

@@ -19,3 +19,6 @@ pub const NOT_THERE: u64 = 16;
 pub const NO_ROOM: u64 = 17;
 /// Never given: a kept byte needs a block of at least one byte.
 pub const STRAY: u64 = 18;
+
+/// The largest of them. Who counts answers by number has one count more, for 0.
+pub const LARGEST: usize = STRAY as usize;
