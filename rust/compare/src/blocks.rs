@@ -36,9 +36,8 @@ fn yes(is: bool, odd: u64) -> u64 {
 pub fn walk(volume: &[u8]) -> Result<(), Difference> {
     let heading = sys::header(volume);
     let mut mark = Bookmark {
-        offset: heading.next,
         due: heading.due != 0,
-        last: None,
+        ..Bookmark::at(heading.next)
     };
     if heading.refusal != 0 {
         return Ok(());

@@ -56,9 +56,8 @@ fn list(rng: &mut Rng, counts: &mut Counts) -> Result<(), String> {
     let previous = [(sequence > 0) as u8; 32];
     header(&mut buffer, &[7; 16], sequence, &previous).map_err(|d| d.to_string())?;
     let mut mark = Bookmark {
-        offset: 80,
         due: sequence > 0,
-        last: None,
+        ..Bookmark::at(80)
     };
     for _ in 0..rng.below(30) {
         let mut asked = request(rng);

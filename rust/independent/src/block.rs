@@ -31,6 +31,36 @@ pub struct Bookmark {
     pub last: Option<u64>,
 }
 
+impl Bookmark {
+    /// A place where no table must come next and before which there is no time.
+    pub const fn at(offset: u64) -> Bookmark {
+        Bookmark {
+            offset,
+            due: false,
+            last: None,
+        }
+    }
+
+    /// Refuses a time that may not come after the last one.
+    #[inline]
+    pub(crate) fn admit(self, time: Option<u64>) -> Result<(), u64> {
+        match (self.last, time) {
+            (Some(last), Some(time)) if time <= last => Err(TIME),
+            _ => Ok(()),
+        }
+    }
+
+    /// The bookmark after a block that begins here, ends at `end` and has this time.
+    #[inline]
+    pub(crate) fn after(self, end: u64, time: Option<u64>) -> Bookmark {
+        Bookmark {
+            offset: end,
+            due: false,
+            last: time.or(self.last),
+        }
+    }
+}
+
 /// A part of a volume and where it begins in it.
 #[derive(Clone, Copy, Debug, PartialEq, Eq)]
 pub struct Part<'a> {
@@ -160,11 +190,7 @@ pub fn read_with(
         return Err(CHECKSUM);
     }
     let (body, time) = decode(id, image, mark.offset)?;
-    if let (Some(time), Some(last)) = (time, mark.last) {
-        if time <= last {
-            return Err(crate::refusal::TIME);
-        }
-    }
+    mark.admit(time)?;
     let length = (covered + CRC) as u64;
     let block = Block {
         id,
@@ -173,11 +199,7 @@ pub fn read_with(
         time,
         body,
     };
-    let next = Bookmark {
-        offset: mark.offset + length,
-        due: false,
-        last: time.or(mark.last),
-    };
+    let next = mark.after(mark.offset + length, time);
     Ok(Reading::Block(block, next))
 }
 

@@ -19,9 +19,8 @@ pub struct Header<'a> {
 /// The bookmark after the header of the volume with this number.
 pub(crate) fn after_header(sequence: u64) -> Bookmark {
     Bookmark {
-        offset: HEADER_LENGTH as u64,
         due: sequence > 0,
-        last: None,
+        ..Bookmark::at(HEADER_LENGTH as u64)
     }
 }
 

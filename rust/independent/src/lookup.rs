@@ -82,12 +82,7 @@ pub(crate) fn for_each_kept(
     if !lengths.len().is_multiple_of(8) || lengths.len() / 8 > LENGTHS_LIMIT {
         return Err(OVER_LIMIT);
     }
-    let mark = Bookmark {
-        offset,
-        due: false,
-        last: None,
-    };
-    let Reading::Block(block, _) = read_with(volume, mark, crc)? else {
+    let Reading::Block(block, _) = read_with(volume, Bookmark::at(offset), crc)? else {
         return Err(ENDS_EARLY);
     };
     let Body::Inode { stat, variable } = block.body else {

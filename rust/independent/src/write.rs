@@ -222,11 +222,7 @@ fn put(
     fields: &[&[u8]],
     tail: &[u8],
 ) -> Result<Bookmark, u64> {
-    if let (Some(time), Some(last)) = (time, mark.last) {
-        if time <= last {
-            return Err(TIME);
-        }
-    }
+    mark.admit(time)?;
     let length = fields.iter().map(|field| field.len()).sum::<usize>() + tail.len() + CRC;
     let end = match mark.offset.checked_add(length as u64) {
         Some(end) if end <= VOLUME_LIMIT as u64 => end,
@@ -236,11 +232,7 @@ fn put(
         .get_mut(mark.offset as usize..end as usize)
         .ok_or(NO_ROOM)?;
     fill(out, fields, tail);
-    Ok(Bookmark {
-        offset: end,
-        due: false,
-        last: time.or(mark.last),
-    })
+    Ok(mark.after(end, time))
 }
 
 /// Fills the whole of `out` with the fields, the tail and the checksum.
