@@ -1,7 +1,17 @@
 //! What the independent implementation answers, in the numbers of the proved one.
 
 use hdrfs::sys;
-use independent::{Block, Body, Bookmark, Header, Part, Place, Reading, Verdict};
+use independent::{Block, Body, Bookmark, Header, Part, Place, Reading, Refusal, Verdict};
+
+/// The answer of this type that is a refusal, beside which all is 0.
+macro_rules! refused {
+    ($answer:ident, $refusal:expr) => {
+        sys::$answer {
+            refusal: $refusal,
+            ..Default::default()
+        }
+    };
+}
 
 /// The answer of a check. Beside a refusal only the offset and the number of blocks stay.
 #[must_use]
@@ -12,58 +22,51 @@ pub fn checked(verdict: &Verdict) -> sys::Checked {
             blocks,
             end,
         } => sys::Checked {
-            refusal: 0,
             sequence,
             blocks,
             offset: end.offset,
             timed: u64::from(end.last.is_some()),
             time: end.last.unwrap_or(0),
+            ..Default::default()
         },
         Verdict::Refused {
             number,
             offset,
             blocks,
         } => sys::Checked {
-            refusal: number,
             blocks,
             offset,
-            ..Default::default()
+            ..refused!(Checked, number)
         },
     }
 }
 
 /// The answer to the header alone.
 #[must_use]
-pub fn heading(answer: Result<Header<'_>, u64>) -> sys::Heading {
+pub fn heading(answer: Result<Header<'_>, Refusal>) -> sys::Heading {
     match answer {
         Ok(header) => sys::Heading {
-            refusal: 0,
             sequence: header.sequence,
             next: header.next.offset,
             due: u64::from(header.next.due),
             id: 18,
             previous: 44,
-        },
-        Err(refusal) => sys::Heading {
-            refusal,
             ..Default::default()
         },
+        Err(refusal) => refused!(Heading, refusal),
     }
 }
 
 /// The answer to one reading by a bookmark.
 #[must_use]
-pub fn reading(answer: &Result<Reading<'_>, u64>) -> sys::Block {
+pub fn reading(answer: &Result<Reading<'_>, Refusal>) -> sys::Block {
     match answer {
         Ok(Reading::Block(found, next)) => block(found, next),
         Ok(Reading::End) => sys::Block {
             end: 1,
             ..Default::default()
         },
-        Err(refusal) => sys::Block {
-            refusal: *refusal,
-            ..Default::default()
-        },
+        Err(refusal) => refused!(Block, *refusal),
     }
 }
 
@@ -148,26 +151,44 @@ fn with_parts(common: sys::Block, first: Part<'_>, second: Part<'_>) -> sys::Blo
 
 /// The answer for a position.
 #[must_use]
-pub fn place(answer: Result<Place, u64>) -> sys::Place {
-    let (refusal, kind, volume, offset) = match answer {
-        Ok(Place::Hole) => (0, sys::HOLE, 0, 0),
-        Ok(Place::Stored { volume, offset }) => (0, sys::STORED, volume, offset),
-        Ok(Place::PastEnd) => (0, sys::PAST_END, 0, 0),
-        Err(refusal) => (refusal, 0, 0, 0),
+pub fn place(answer: Result<Place, Refusal>) -> sys::Place {
+    let (kind, volume, offset) = match answer {
+        Ok(Place::Hole) => (sys::HOLE, 0, 0),
+        Ok(Place::Stored { volume, offset }) => (sys::STORED, volume, offset),
+        Ok(Place::PastEnd) => (sys::PAST_END, 0, 0),
+        Err(refusal) => return refused!(Place, refusal),
     };
     sys::Place {
-        refusal,
         kind,
         volume,
         offset,
+        ..Default::default()
     }
 }
 
 /// The answer to a range.
 #[must_use]
-pub fn run_count(answer: Result<u64, u64>) -> sys::RunCount {
+pub fn run_count(answer: Result<u64, Refusal>) -> sys::RunCount {
     match answer {
-        Ok(count) => sys::RunCount { refusal: 0, count },
-        Err(refusal) => sys::RunCount { refusal, count: 0 },
+        Ok(count) => sys::RunCount {
+            count,
+            ..Default::default()
+        },
+        Err(refusal) => refused!(RunCount, refusal),
+    }
+}
+
+/// The answer to an append or to the writing of a header.
+#[must_use]
+pub fn written(answer: Result<Bookmark, Refusal>) -> sys::Written {
+    match answer {
+        Ok(mark) => sys::Written {
+            next: mark.offset,
+            due: u64::from(mark.due),
+            timed: u64::from(mark.last.is_some()),
+            last: mark.last.unwrap_or(0),
+            ..Default::default()
+        },
+        Err(refusal) => refused!(Written, refusal),
     }
 }

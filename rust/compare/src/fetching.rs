@@ -5,7 +5,7 @@ use hdrfs::{sys, Physical};
 use crate::difference::{same, Answer};
 
 /// Where a part begins and how long it is, or the refusal number.
-type Found = Result<(*const u8, usize), u64>;
+type Found = Result<(*const u8, usize), independent::Refusal>;
 
 /// One fetch: number of the volume, offset and length.
 pub fn fetch(first: &[u8], second: &[u8], asked: (u64, u64, u64)) -> Answer {

@@ -63,7 +63,11 @@ impl<'a> Asked<'a> {
     }
 
     /// The runs of a range, and whether these are all.
-    fn expected(&self, from: u64, to: u64) -> Result<(Vec<Result<Run, Refusal>>, bool), u64> {
+    fn expected(
+        &self,
+        from: u64,
+        to: u64,
+    ) -> Result<(Vec<Result<Run, Refusal>>, bool), independent::Refusal> {
         let mut end = to;
         let mut count = self.count(from, end)?;
         while count > self.most {
@@ -82,7 +86,7 @@ impl<'a> Asked<'a> {
         Ok((list, whole))
     }
 
-    fn count(&self, from: u64, to: u64) -> Result<u64, u64> {
+    fn count(&self, from: u64, to: u64) -> Result<u64, independent::Refusal> {
         independent::run_count(self.volume, self.offset, self.lengths.as_bytes(), from, to)
     }
 }

@@ -2,27 +2,11 @@
 
 use generator::rng::Rng;
 use hdrfs::sys::{self, Written};
-use independent::{self as plain, Bookmark};
+use independent::{self as plain, Bookmark, Refusal};
 
+use crate::answers;
 use crate::difference::{same, same_list, Answer};
 use crate::requests::Request;
-
-/// What both answer, as the numbers of the boundary.
-fn numbers(answer: Result<Bookmark, u64>) -> Written {
-    match answer {
-        Ok(mark) => Written {
-            refusal: 0,
-            next: mark.offset,
-            due: u64::from(mark.due),
-            timed: u64::from(mark.last.is_some()),
-            last: mark.last.unwrap_or(0),
-        },
-        Err(refusal) => Written {
-            refusal,
-            ..Written::default()
-        },
-    }
-}
 
 /// Appends with both to copies of the buffer, and leaves in it what both wrote. Answers the number
 /// and the bookmark after the block, or the same bookmark where the block is refused.
@@ -35,7 +19,7 @@ pub fn append(
     let expected = independently(&mut other, mark, request);
     let written = proved(buffer, mark, request);
     let question = || format!("append of {request:?} at {mark:?}");
-    same(written, numbers(expected), question)?;
+    same(written, answers::written(expected), question)?;
     same_list(buffer, &other, question)?;
     Ok((written.refusal, expected.unwrap_or(mark)))
 }
@@ -46,7 +30,7 @@ pub fn header(buffer: &mut [u8], id: &[u8], sequence: u64, previous: &[u8]) -> A
     let expected = plain::write_header(&mut other, id, sequence, previous);
     let written = sys::write_header(buffer, id, sequence, previous);
     let question = || format!("header {sequence}, {id:?}, {previous:?}");
-    same(written, numbers(expected), question)?;
+    same(written, answers::written(expected), question)?;
     same_list(buffer, &other, question)?;
     Ok(written.refusal)
 }
@@ -69,36 +53,34 @@ pub fn made_up(rng: &mut Rng, room: usize) -> Bookmark {
 fn proved(buf: &mut [u8], mark: Bookmark, request: &Request) -> Written {
     let (offset, due) = (mark.offset, u64::from(mark.due));
     let (timed, last) = (u64::from(mark.last.is_some()), mark.last.unwrap_or(0));
+    macro_rules! append {
+        ($call:ident($($field:expr),*)) => {
+            sys::$call(buf, offset, due, timed, last, $($field),*)
+        };
+    }
     match request {
-        Request::Inode(s, rest) => sys::append_inode(
-            buf, offset, due, timed, last, s.inode, s.time, s.mode, s.uid, s.gid, s.atime, s.mtime,
-            s.ctime, s.btime, s.size, rest,
-        ),
+        Request::Inode(s, rest) => append!(append_inode(
+            s.inode, s.time, s.mode, s.uid, s.gid, s.atime, s.mtime, s.ctime, s.btime, s.size, rest
+        )),
         Request::Link(time, [child, parent], name) => {
-            sys::append_link(buf, offset, due, timed, last, *time, *child, *parent, name)
+            append!(append_link(*time, *child, *parent, name))
         }
         Request::Unlink(time, [child, parent], name) => {
-            sys::append_unlink(buf, offset, due, timed, last, *time, *child, *parent, name)
+            append!(append_unlink(*time, *child, *parent, name))
         }
         Request::Xattr(time, inode, name, value) => {
-            sys::append_xattr(buf, offset, due, timed, last, *time, *inode, name, value)
+            append!(append_xattr(*time, *inode, name, value))
         }
         Request::RemovedXattr(time, inode, name) => {
-            sys::append_removed_xattr(buf, offset, due, timed, last, *time, *inode, name)
+            append!(append_removed_xattr(*time, *inode, name))
         }
-        Request::Data(time, payload) => {
-            sys::append_data(buf, offset, due, timed, last, *time, payload)
-        }
-        Request::Rename(time, old, new) => {
-            sys::append_rename(buf, offset, due, timed, last, *time, old, new)
-        }
-        Request::Table(count, links) => {
-            sys::append_table(buf, offset, due, timed, last, *count, links)
-        }
+        Request::Data(time, payload) => append!(append_data(*time, payload)),
+        Request::Rename(time, old, new) => append!(append_rename(*time, old, new)),
+        Request::Table(count, links) => append!(append_table(*count, links)),
     }
 }
 
-fn independently(buf: &mut [u8], mark: Bookmark, request: &Request) -> Result<Bookmark, u64> {
+fn independently(buf: &mut [u8], mark: Bookmark, request: &Request) -> Result<Bookmark, Refusal> {
     match request {
         Request::Inode(stat, rest) => plain::append_inode(buf, mark, stat, rest),
         Request::Link(time, [child, parent], name) => {

@@ -2,7 +2,7 @@
 //! making are the ones given.
 
 use generator::{case, describe, edges, Case, Expected};
-use independent::refusal::LARGEST;
+use independent::refusal::{Refusal, LARGEST};
 use independent::{check, fetch, lookup, read, runs, Bookmark, Place, Reading, Verdict};
 
 const SEEDS: u64 = 20_000;
@@ -25,7 +25,7 @@ struct Counts {
     some_runs: u64,
 }
 
-fn number<T>(answer: &Result<T, u64>) -> usize {
+fn number<T>(answer: &Result<T, Refusal>) -> usize {
     *answer.as_ref().err().unwrap_or(&0) as usize
 }
 

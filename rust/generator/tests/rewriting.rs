@@ -6,7 +6,7 @@ use independent::*;
 
 /// Appends the block whose bytes these are, from its fields as they stand.
 /// Nothing is checked here.
-fn append_raw(buffer: &mut [u8], mark: Bookmark, image: &[u8]) -> Result<Bookmark, u64> {
+fn append_raw(buffer: &mut [u8], mark: Bookmark, image: &[u8]) -> Result<Bookmark, Refusal> {
     let number = |at: usize| u64::from_le_bytes(image[at..at + 8].try_into().unwrap());
     let short = |at: usize| u16::from_le_bytes(image[at..at + 2].try_into().unwrap());
     let end = image.len() - 4;

@@ -43,7 +43,7 @@ impl Bookmark {
 
     /// Refuses a time that may not come after the last one.
     #[inline]
-    pub(crate) fn admit(self, time: Option<u64>) -> Result<(), u64> {
+    pub(crate) fn admit(self, time: Option<u64>) -> Result<(), Refusal> {
         match (self.last, time) {
             (Some(last), Some(time)) if time <= last => Err(TIME),
             _ => Ok(()),
@@ -150,7 +150,7 @@ pub enum Reading<'a> {
 }
 
 /// Reads the block at the bookmark.
-pub fn read(volume: &[u8], mark: Bookmark) -> Result<Reading<'_>, u64> {
+pub fn read(volume: &[u8], mark: Bookmark) -> Result<Reading<'_>, Refusal> {
     read_with(volume, mark, crc::slicing)
 }
 
@@ -160,7 +160,7 @@ pub fn read_with(
     volume: &[u8],
     mark: Bookmark,
     crc: impl Fn(&[u8]) -> u32,
-) -> Result<Reading<'_>, u64> {
+) -> Result<Reading<'_>, Refusal> {
     if volume.len() > VOLUME_LIMIT {
         return Err(TOO_LONG);
     }
@@ -218,7 +218,7 @@ const fn fixed_length(id: u8) -> usize {
 
 /// How many bytes stand before the checksum of the block at the front, if
 /// these and the checksum are all there and no limit is passed.
-fn measure(id: u8, rest: &[u8]) -> Result<usize, u64> {
+fn measure(id: u8, rest: &[u8]) -> Result<usize, Refusal> {
     let fixed = fixed_length(id);
     let (fields, tail) = rest.split_at_checked(fixed).ok_or(ENDS_EARLY)?;
     let short = |at| u64::from(u16_at(fields, at));
@@ -252,7 +252,7 @@ fn measure(id: u8, rest: &[u8]) -> Result<usize, u64> {
 /// Takes a measured block apart and applies the rules on its contents. The
 /// second answer is its time.
 #[inline]
-fn decode(id: u8, image: &[u8], offset: u64) -> Result<(Body<'_>, Option<u64>), u64> {
+fn decode(id: u8, image: &[u8], offset: u64) -> Result<(Body<'_>, Option<u64>), Refusal> {
     let part = |from: usize, to: usize| Part {
         start: offset + from as u64,
         bytes: &image[from..to],
@@ -333,7 +333,7 @@ fn decode(id: u8, image: &[u8], offset: u64) -> Result<(Body<'_>, Option<u64>), 
 }
 
 /// The rules on an inode's fields, but for its limit and its time.
-pub(crate) fn inode_rules(stat: &Stat, variable: &[u8]) -> Result<(), u64> {
+pub(crate) fn inode_rules(stat: &Stat, variable: &[u8]) -> Result<(), Refusal> {
     if stat.is_regular() {
         if !extent::each_allowed(variable) {
             return Err(FIELD);
@@ -355,7 +355,7 @@ pub(crate) fn inode_rules(stat: &Stat, variable: &[u8]) -> Result<(), u64> {
 }
 
 /// The rules on the contents of a table whose links fill these bytes.
-pub(crate) fn table_rules(bytes: &[u8]) -> Result<(), u64> {
+pub(crate) fn table_rules(bytes: &[u8]) -> Result<(), Refusal> {
     if !Links::new(bytes).all(|link| is_text(link.name)) {
         return Err(NOT_TEXT);
     }

@@ -1,7 +1,7 @@
 //! Stored bytes, handed on as they lie.
 
 use crate::header::read_header;
-use crate::refusal::NOT_THERE;
+use crate::refusal::{Refusal, NOT_THERE};
 
 /// Looks for the volume of this number, in `first` before `second`, and
 /// gives `length` bytes of it from `offset` on. Both headers must be sound.
@@ -11,7 +11,7 @@ pub fn fetch<'a>(
     number: u64,
     offset: u64,
     length: u64,
-) -> Result<&'a [u8], u64> {
+) -> Result<&'a [u8], Refusal> {
     let one = read_header(first)?.sequence;
     let two = read_header(second)?.sequence;
     let volume = if one == number {

@@ -24,7 +24,7 @@ pub(crate) fn after_header(sequence: u64) -> Bookmark {
     }
 }
 
-pub fn read_header(volume: &[u8]) -> Result<Header<'_>, u64> {
+pub fn read_header(volume: &[u8]) -> Result<Header<'_>, Refusal> {
     if volume.len() > VOLUME_LIMIT {
         return Err(TOO_LONG);
     }

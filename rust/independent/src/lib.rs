@@ -34,6 +34,7 @@ pub use fetch::fetch;
 pub use header::{read_header, Header};
 pub use listing::listing;
 pub use lookup::{lookup, lookup_with, Place};
+pub use refusal::Refusal;
 pub use runs::{run_count, runs, runs_with};
 pub use set::{set_faults, Inode, LastLink, Set, SetFault};
 pub use write::{

@@ -14,7 +14,7 @@ pub enum Place {
 
 /// The answer for one position of the inode block at `offset`. `lengths`
 /// holds eight bytes for each volume.
-pub fn lookup(volume: &[u8], offset: u64, lengths: &[u8], position: u64) -> Result<Place, u64> {
+pub fn lookup(volume: &[u8], offset: u64, lengths: &[u8], position: u64) -> Result<Place, Refusal> {
     lookup_with(volume, offset, lengths, position, crc::slicing)
 }
 
@@ -25,7 +25,7 @@ pub fn lookup_with(
     lengths: &[u8],
     position: u64,
     crc: impl Fn(&[u8]) -> u32,
-) -> Result<Place, u64> {
+) -> Result<Place, Refusal> {
     let mut found = Place::Hole;
     let size = for_each_kept(volume, offset, lengths, crc, |kept| {
         if kept.from <= position && position < kept.to {
@@ -78,7 +78,7 @@ pub(crate) fn for_each_kept(
     lengths: &[u8],
     crc: impl Fn(&[u8]) -> u32,
     mut visit: impl FnMut(Kept),
-) -> Result<u64, u64> {
+) -> Result<u64, Refusal> {
     if !lengths.len().is_multiple_of(8) || lengths.len() / 8 > LENGTHS_LIMIT {
         return Err(OVER_LIMIT);
     }

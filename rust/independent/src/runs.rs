@@ -3,7 +3,7 @@
 use crate::crc;
 use crate::extent::COUNTED;
 use crate::lookup::{for_each_kept, Kept};
-use crate::refusal::NO_ROOM;
+use crate::refusal::{Refusal, NO_ROOM};
 
 /// Writes the runs of `from` to below `to`, five numbers each, and gives how
 /// many there are. `out` is the room; on refusal it stays as it was.
@@ -14,7 +14,7 @@ pub fn runs(
     from: u64,
     to: u64,
     out: &mut [u64],
-) -> Result<u64, u64> {
+) -> Result<u64, Refusal> {
     runs_with(volume, offset, lengths, from, to, out, crc::slicing)
 }
 
@@ -27,7 +27,7 @@ pub fn runs_with(
     to: u64,
     out: &mut [u64],
     crc: impl Fn(&[u8]) -> u32,
-) -> Result<u64, u64> {
+) -> Result<u64, Refusal> {
     let plan = Plan::new(volume, offset, lengths, from, to, crc)?;
     let count = plan.count();
     if count > (out.len() / 5) as u64 {
@@ -51,7 +51,7 @@ pub fn run_count(
     lengths: &[u8],
     from: u64,
     to: u64,
-) -> Result<u64, u64> {
+) -> Result<u64, Refusal> {
     Ok(Plan::new(volume, offset, lengths, from, to, crc::slicing)?.count())
 }
 
@@ -77,7 +77,7 @@ impl Plan {
         from: u64,
         to: u64,
         crc: impl Fn(&[u8]) -> u32,
-    ) -> Result<Plan, u64> {
+    ) -> Result<Plan, Refusal> {
         let mut kept = Vec::new();
         let size = for_each_kept(volume, offset, lengths, crc, |k| {
             if k.from < to && from < k.to {

@@ -18,7 +18,7 @@ pub fn write_header(
     id: &[u8],
     sequence: u64,
     previous: &[u8],
-) -> Result<Bookmark, u64> {
+) -> Result<Bookmark, Refusal> {
     if id.len() != 16 || previous.len() != 32 {
         return Err(FIELD);
     }
@@ -36,7 +36,7 @@ pub fn append_inode(
     mark: Bookmark,
     stat: &Stat,
     variable: &[u8],
-) -> Result<Bookmark, u64> {
+) -> Result<Bookmark, Refusal> {
     place(mark, false)?;
     let n = variable.len() as u64;
     if stat.is_regular() && n > EXTENT_BYTES {
@@ -67,7 +67,7 @@ pub fn append_link(
     child: u64,
     parent: u64,
     name: &[u8],
-) -> Result<Bookmark, u64> {
+) -> Result<Bookmark, Refusal> {
     link(buffer, mark, LINK, time, [child, parent], name)
 }
 
@@ -78,7 +78,7 @@ pub fn append_unlink(
     child: u64,
     parent: u64,
     name: &[u8],
-) -> Result<Bookmark, u64> {
+) -> Result<Bookmark, Refusal> {
     link(buffer, mark, UNLINK, time, [child, parent], name)
 }
 
@@ -89,7 +89,7 @@ fn link(
     time: u64,
     [child, parent]: [u64; 2],
     name: &[u8],
-) -> Result<Bookmark, u64> {
+) -> Result<Bookmark, Refusal> {
     place(mark, false)?;
     let n = u16::try_from(name.len()).map_err(|_| OVER_LIMIT)?;
     text(name)?;
@@ -110,7 +110,7 @@ pub fn append_xattr(
     inode: u64,
     name: &[u8],
     value: &[u8],
-) -> Result<Bookmark, u64> {
+) -> Result<Bookmark, Refusal> {
     place(mark, false)?;
     let n = u8::try_from(name.len()).map_err(|_| OVER_LIMIT)?;
     let m = u16::try_from(value.len()).map_err(|_| OVER_LIMIT)?;
@@ -132,7 +132,7 @@ pub fn append_removed_xattr(
     time: u64,
     inode: u64,
     name: &[u8],
-) -> Result<Bookmark, u64> {
+) -> Result<Bookmark, Refusal> {
     place(mark, false)?;
     let n = u8::try_from(name.len()).map_err(|_| OVER_LIMIT)?;
     text(name)?;
@@ -150,7 +150,7 @@ pub fn append_data(
     mark: Bookmark,
     time: u64,
     payload: &[u8],
-) -> Result<Bookmark, u64> {
+) -> Result<Bookmark, Refusal> {
     place(mark, false)?;
     let n = payload.len() as u64;
     let fields: [&[u8]; 3] = [&[DATA], &time.to_le_bytes(), &n.to_le_bytes()];
@@ -163,7 +163,7 @@ pub fn append_rename(
     time: u64,
     old: &[u8],
     new: &[u8],
-) -> Result<Bookmark, u64> {
+) -> Result<Bookmark, Refusal> {
     place(mark, false)?;
     let n = u16::try_from(old.len()).map_err(|_| OVER_LIMIT)?;
     let m = u16::try_from(new.len()).map_err(|_| OVER_LIMIT)?;
@@ -185,7 +185,7 @@ pub fn append_table(
     mark: Bookmark,
     count: u64,
     bytes: &[u8],
-) -> Result<Bookmark, u64> {
+) -> Result<Bookmark, Refusal> {
     place(mark, true)?;
     if count > LINK_LIMIT {
         return Err(OVER_LIMIT);
@@ -199,14 +199,14 @@ pub fn append_table(
 }
 
 /// Whether a table, or another block, may stand at the bookmark.
-fn place(mark: Bookmark, table: bool) -> Result<(), u64> {
+fn place(mark: Bookmark, table: bool) -> Result<(), Refusal> {
     if mark.offset < HEADER_LENGTH as u64 || mark.due != table {
         return Err(OUT_OF_PLACE);
     }
     Ok(())
 }
 
-fn text(bytes: &[u8]) -> Result<(), u64> {
+fn text(bytes: &[u8]) -> Result<(), Refusal> {
     if is_text(bytes) {
         Ok(())
     } else {
@@ -221,7 +221,7 @@ fn put(
     time: Option<u64>,
     fields: &[&[u8]],
     tail: &[u8],
-) -> Result<Bookmark, u64> {
+) -> Result<Bookmark, Refusal> {
     mark.admit(time)?;
     let length = fields.iter().map(|field| field.len()).sum::<usize>() + tail.len() + CRC;
     let end = match mark.offset.checked_add(length as u64) {
