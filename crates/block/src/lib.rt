@@ -3,23 +3,23 @@
 // There is no bookmark here: everything goes by the volume's bytes and plain numbers. Calls: `block_fault`, the first
 // fault of a block; `decode`, the block where there is none; `sum_wrong`, the test of a checksum. `volume` calls them.
 // Each kind of block has a file, with its checks and its decoding; `request` calls the checks of an inode's n bytes, which
-// are the same in writing. `numbers` names the refusals.
+// are the same in writing. `limits` has the limits of a volume and of a table.
 mod data;
 pub mod inode;
+pub mod limits;
 mod link;
-pub mod numbers;
 mod rename;
 mod seal;
 mod table;
 mod text;
 mod xattr;
 
-use numbers::CUT_SHORT;
-use numbers::HEADER_LEN;
-use numbers::ID_UNKNOWN;
-use numbers::OUT_OF_PLACE;
-use numbers::TOO_LARGE;
-use numbers::VOLUME_LIMIT;
+use limits::HEADER_LEN;
+use limits::VOLUME_LIMIT;
+use refusal::CUT_SHORT;
+use refusal::ID_UNKNOWN;
+use refusal::OUT_OF_PLACE;
+use refusal::TOO_LARGE;
 ghost use mathlib.Core.Path.{_≡_};
 ghost use Prim.Native.Nat.{_+_, _≤_, _<_};
 ghost use lib.ListN.{length};

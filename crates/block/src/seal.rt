@@ -1,7 +1,7 @@
 // The end of a block: whether its last bytes and the CRC are there, and whether the CRC is right.
-use crate::numbers::CHECKSUM_WRONG;
-use crate::numbers::CUT_SHORT;
 use crate::sum_wrong;
+use refusal::CHECKSUM_WRONG;
+use refusal::CUT_SHORT;
 ghost use mathlib.Core.Path.{_≡_};
 ghost use Prim.Native.Nat.{_+_, _≤_};
 ghost use lib.ListN.{length};

@@ -1,6 +1,6 @@
 // Blocks whose variable parts begin with a text.
-use crate::numbers::NOT_TEXT;
 use crate::seal::sealed_fault;
+use refusal::NOT_TEXT;
 ghost use mathlib.Core.Path.{_≡_};
 ghost use Prim.Native.Nat.{_≤_};
 ghost use lib.ListN.{length};

@@ -12,6 +12,7 @@ use lib.ListN.{length}
 use borrow.Author.Tests.{ltb-true, ltb-false, lt-ltb, le-ltb, le-leb, lt-leb}
 use Rattle.number.specs.Number.{Bytes}
 use Rattle.number.proofs.Put.{put-fits, put-past}
+use Rattle.refusal.specs.declared.Refusal.{Refusal}
 use Rattle.format.specs.Blocks.{Block, image}
 use Rattle.format.specs.Readings.{Reading}
 use Rattle.block.specs.Shown.{shown}
@@ -20,7 +21,6 @@ use Rattle.volume.specs.Reading.{readAnswer}
 use Rattle.volume.specs.Checking.{afterHeader, checkAnswer}
 use Rattle.volume.specs.declared.Bookmark.{Bookmark}
 use Rattle.volume.specs.declared.Found.{Found}
-use Rattle.volume.specs.declared.Refusal.{Refusal}
 use Rattle.volume.specs.declared.Header.{Header as VolumeHeader}
 use Rattle.volume.specs.declared.HeaderAnswer.{HeaderAnswer}
 use Rattle.volume.specs.declared.HeaderAnswer.the-variants as head

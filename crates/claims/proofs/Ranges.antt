@@ -14,8 +14,8 @@ use Rattle.number.proofs.Put.{put-fits}
 use Rattle.checks.specs.Checks.{check, firstFault}
 use Rattle.checks.proofs.Laws.{firstFault-append}
 use Rattle.checks.proofs.First.{option-cases}
+use Rattle.refusal.specs.Refusal.{refusalOf}
 use Rattle.block.specs.Fields.{sizeAt, restAt}
-use Rattle.volume.specs.Heading.{refusalOf}
 use Rattle.runs.specs.Positions.{keeper}
 use Rattle.runs.specs.Runs.{runLengths, runNumbers, runCount, rangeNumbers}
 use Rattle.runs.specs.Answers as runs

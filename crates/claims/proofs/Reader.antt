@@ -9,6 +9,7 @@ use lib.ListN.{length, drop, length-append, length-drop}
 use lib.Seq.{drop-length}
 use Rattle.number.specs.Number.{Bytes}
 use Rattle.number.proofs.Parts.{drop-past}
+use Rattle.refusal.specs.declared.Refusal.{Refusal}
 use Rattle.format.specs.Blocks.{Block, image}
 use Rattle.format.specs.Readings.{images}
 use Rattle.block.specs.Order.{volumeLimit}
@@ -26,7 +27,6 @@ use Rattle.volume.proofs.Steps.{check-step}
 use Rattle.volume.proofs.OneCall.{after, HandedOut, read-sound, Hands, read-complete, AtEnd, end-sound, end-complete}
 use Rattle.claims.specs.Library.{ours}
 use Rattle.claims.specs.Demand3Reading.{Calls, ended, handed, Stops, stopped, handed-before}
-use Rattle.volume.specs.declared.Refusal.{Refusal}
 use Rattle.claims.proofs.Walk.{Runs, afterAll}
 
 -- what the calls tell of the blocks

@@ -13,6 +13,7 @@ use Rattle.checks.specs.Checks.{Check, check, firstFault, hit, miss}
 use Rattle.checks.specs.Scan.{anyBelow, firstBelow}
 use Rattle.checks.proofs.Laws.{decided, faultAt}
 use Rattle.checks.proofs.Tests.{eq-neb}
+use Rattle.refusal.specs.Refusal.{refusalOf}
 use Rattle.format.specs.Layout.{laid, sealed}
 use Rattle.format.specs.Extents.{extentList}
 use Rattle.format.specs.Blocks.{inodeBlock, widths, fields, image}
@@ -23,7 +24,7 @@ use Rattle.extent.specs.Extents.{extentAt, isSound, someBroken, shareRange, som
 use Rattle.block.specs.Fields.{kindWith, bodyLength, sizeAt, restAt}
 use Rattle.block.specs.Order.{volumeLimit, overCount, sumWrong, notText, ruleBroken, rangesOverlap, linkTwice}
 use Rattle.block.specs.Shown.{blockOf, shown}
-use Rattle.volume.specs.Heading.{refusalOf, headerFault, headerAnswer}
+use Rattle.volume.specs.Heading.{headerFault, headerAnswer}
 use Rattle.volume.specs.Reading.{isEnd, mayFollow, readOrder, readFault, readAnswer}
 use Rattle.volume.specs.Checking.{afterHeader, checkAnswer}
 use Rattle.volume.specs.declared.HeaderAnswer.the-variants as HeaderAnswer

@@ -7,6 +7,7 @@ use mathlib.Core.List.{List, [], _∷_}
 use native.Mathlib.Omega.{arith}
 use Rattle.number.specs.Number.{le}
 use Rattle.utf8.specs.Grammar.{empty}
+use Rattle.refusal.specs.Refusal.{refusalOf}
 use Rattle.format.specs.Layout.{All}
 use Rattle.format.specs.Blocks.{Block, Inode, Link, Unlink, Xattr, RemovedXattr, Data, Rename, Table}
 use Rattle.format.specs.Readings.{timeOf}
@@ -15,7 +16,7 @@ use Rattle.links.specs.Links.{linkStart, linksFrom}
 use Rattle.block.specs.Shown.{blockAt, shown}
 use Rattle.block.specs.declared.Block as found
 use Rattle.block.specs.declared.Block.the-variants as kind
-use Rattle.volume.specs.Heading.{refusalOf, headerFault, headerAnswer}
+use Rattle.volume.specs.Heading.{headerFault, headerAnswer}
 use Rattle.volume.specs.Reading.{readAnswer}
 use Rattle.volume.specs.declared.Bookmark.{Bookmark}
 use Rattle.volume.specs.declared.Found.{Found}

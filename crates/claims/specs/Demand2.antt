@@ -10,13 +10,13 @@ use mathlib.Core.Logic.{_⊎_, _↔_}
 use mathlib.Core.List.{List, [], _∷_, _++_}
 use lib.ListN.{length, drop, getD}
 use Rattle.number.specs.Number.{Bytes, part}
+use Rattle.refusal.specs.Refusal.{refusalOf}
 use Rattle.format.specs.declared.Extent.{Extent}
 use Rattle.format.specs.Layout.{laid}
 use Rattle.format.specs.Extents.{extentWidths, extentFields, keptLength, footprint, ExtentRules, KeepsPosition}
 use Rattle.format.specs.Blocks.{inodeBlock, Block, kindOf, fields, body, image, BlockRules, fileType, regular}
 use Rattle.extent.specs.Extents.{extentAt, extentCount}
 use Rattle.block.specs.Fields.{sizeAt, restAt}
-use Rattle.volume.specs.Heading.{refusalOf}
 use Rattle.runs.specs.Positions.{copyOf}
 use Rattle.runs.specs.Runs.{hole, stored, label, IsRuns}
 use Rattle.lookup.specs.Lookup.{entryCount, lengthOf, lookupFault}

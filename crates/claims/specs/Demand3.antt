@@ -8,6 +8,7 @@ use mathlib.Core.Logic.{_↔_}
 use mathlib.Core.List.{List, [], _∷_, _++_, map}
 use lib.ListN.{length, take, drop}
 use Rattle.number.specs.Number.{Bytes}
+use Rattle.refusal.specs.declared.Refusal.{Refusal}
 use Rattle.format.specs.Layout.{All}
 use Rattle.format.specs.Blocks.{Block, BlockRules}
 use Rattle.format.specs.Headers.{Header, HeaderRules}
@@ -19,7 +20,6 @@ use Rattle.request.specs.Asking.{requestFor, Sized}
 use Rattle.volume.specs.Writing.{SizedHeader}
 use Rattle.volume.specs.declared.Bookmark.{Bookmark}
 use Rattle.volume.specs.declared.Found.{Found}
-use Rattle.volume.specs.declared.Refusal.{Refusal}
 use Rattle.volume.specs.declared.ReadAnswer.the-variants as ReadAnswer
 use Rattle.volume.specs.declared.Verdict.the-variants as Verdict
 use Rattle.volume.specs.declared.WriteAnswer.{WriteAnswer}

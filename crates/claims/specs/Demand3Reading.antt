@@ -8,12 +8,12 @@ use mathlib.Core.Logic.{_↔_}
 use mathlib.Core.List.{List, [], _∷_}
 use lib.ListN.{length}
 use Rattle.number.specs.Number.{Bytes}
+use Rattle.refusal.specs.declared.Refusal.{Refusal}
 use Rattle.format.specs.Blocks.{Block}
 use Rattle.format.specs.Readings.{Reading, ReadingOf, HasReading}
 use Rattle.block.specs.Shown.{shown}
 use Rattle.volume.specs.declared.Bookmark.{Bookmark}
 use Rattle.volume.specs.declared.Found.{Found}
-use Rattle.volume.specs.declared.Refusal.{Refusal}
 use Rattle.volume.specs.declared.Header.{Header as VolumeHeader}
 use Rattle.volume.specs.declared.Accepted.{Accepted}
 use Rattle.volume.specs.declared.Rejected.{Rejected}

@@ -9,6 +9,7 @@ use mathlib.Core.Bool.{false}
 use mathlib.Core.List.{List, [], _∷_, _++_}
 use lib.ListN.{length, drop, replicate}
 use Rattle.number.specs.Number.{leBytes}
+use Rattle.refusal.specs.Refusal.{refusalOf}
 use Rattle.format.specs.declared.Extent.{Extent}
 use Rattle.format.specs.Layout.{All}
 use Rattle.format.specs.Extents.{extentList, top, keptLength}
@@ -18,7 +19,6 @@ use Rattle.format.specs.Readings.{volumeOf}
 use Rattle.extent.specs.Extents.{extentAt}
 use Rattle.block.specs.Fields.{restAt}
 use Rattle.block.specs.Shown.{blockAt, shown}
-use Rattle.volume.specs.Heading.{refusalOf}
 use Rattle.volume.specs.Reading.{readAnswer}
 use Rattle.volume.specs.Checking.{checkAnswer}
 use Rattle.volume.specs.declared.Bookmark.{Bookmark}

@@ -7,12 +7,12 @@ use mathlib.Core.Bool.{true}
 use mathlib.Core.List.{List, [], _++_}
 use lib.ListN.{length}
 use Rattle.number.specs.Number.{put}
+use Rattle.refusal.specs.Refusal.{refusalOf}
 use Rattle.format.specs.Headers.{Header}
 use Rattle.block.specs.Shown.{blockAt}
 use Rattle.block.specs.declared.Block.{Block}
 use Rattle.block.specs.declared.Block.the-variants as block
 use Rattle.request.specs.Requests.{Request}
-use Rattle.volume.specs.Heading.{refusalOf}
 use Rattle.volume.specs.declared.Bookmark.{Bookmark}
 use Rattle.volume.specs.declared.HeaderAnswer.the-variants as head
 use Rattle.volume.specs.declared.ReadAnswer.{ReadAnswer}

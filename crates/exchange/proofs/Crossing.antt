@@ -9,6 +9,7 @@ use lib.Dec.{eqb}
 use lib.ListN.{length}
 use borrow.Author.Tests.{ne-eqb}
 use Rattle.number.specs.Number.{Bytes}
+use Rattle.refusal.specs.Refusal.{refusalOf}
 use Rattle.format.specs.Blocks as format
 use Rattle.format.specs.Blocks.{TableLink}
 use Rattle.format.specs.Headers.{Header}
@@ -27,7 +28,7 @@ use Rattle.block.specs.declared.Block.{Block}
 use Rattle.block.specs.declared.Block.the-variants.{Inode, Link, Unlink, Xattr, RemovedXattr, Data, Rename, Table}
 use Rattle.block.proofs.TableLinks.{Filled}
 use Rattle.request.specs.Requests.{Request}
-use Rattle.volume.specs.Heading.{sequenceOf, headerFault, firstMark, refusalOf, headerAnswer, partAnswer}
+use Rattle.volume.specs.Heading.{sequenceOf, headerFault, firstMark, headerAnswer, partAnswer}
 use Rattle.volume.specs.Reading.{readFault, nextMark, readAnswer}
 use Rattle.volume.specs.Checking.{checkAnswer}
 use Rattle.volume.specs.Writing.{writeFault, writeAnswer, appendFault, appendAnswer}

@@ -12,6 +12,7 @@ use mathlib.Core.List.{List, [], _∷_}
 use lib.Dec.{eqb}
 use lib.ListN.{length}
 use Rattle.number.specs.Number.{Bytes, part}
+use Rattle.refusal.specs.Refusal.{refusalOf}
 use Rattle.format.specs.Blocks as format
 use Rattle.format.specs.Blocks.{Kind, inodeBlock, linkBlock, unlinkBlock, xattrBlock, removedXattrBlock, dataBlock, renameBlock, linkTable, TableLink}
 use Rattle.format.specs.Headers.{Header}
@@ -28,7 +29,7 @@ use Rattle.block.specs.declared.TableBlock.{TableBlock}
 use Rattle.block.specs.declared.Block.{Block}
 use Rattle.block.specs.declared.Block.the-variants.{Inode, Link, Unlink, Xattr, RemovedXattr, Data, Rename, Table}
 use Rattle.request.specs.Requests.{Request}
-use Rattle.volume.specs.Heading.{idOffset, previousOffset, refusalOf, headerAnswer, partAnswer}
+use Rattle.volume.specs.Heading.{idOffset, previousOffset, headerAnswer, partAnswer}
 use Rattle.volume.specs.Reading.{readAnswer}
 use Rattle.volume.specs.Checking.{checkAnswer}
 use Rattle.volume.specs.Writing.{writeAnswer, appendAnswer}

@@ -4,8 +4,9 @@ use mathlib.Core.Bool.{cond}
 use mathlib.Core.List.{List, [], _∷_, _++_}
 use lib.Dec.{leb, ltb}
 use lib.ListN.{length}
+use Rattle.refusal.specs.Refusal.{refusalOf}
 use Rattle.block.specs.Fields.{idAt}
-use Rattle.volume.specs.Heading.{refusalOf, headerAnswer}
+use Rattle.volume.specs.Heading.{headerAnswer}
 use Rattle.volume.specs.Reading.{readAnswer}
 use Rattle.volume.specs.declared.Bookmark.{Bookmark}
 use Rattle.volume.specs.declared.Found.{Found as Handed}

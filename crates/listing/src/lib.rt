@@ -5,14 +5,14 @@
 // The program hdrfs_list calls it.
 mod text;
 
-use block::numbers::ROOM_TOO_SMALL;
-use block::numbers::TOO_LARGE;
+use refusal::ROOM_TOO_SMALL;
+use refusal::Refusal;
+use refusal::TOO_LARGE;
+use refusal::refuse;
 use volume::Bookmark;
 use volume::HeaderAnswer;
 use volume::ReadAnswer;
-use volume::Refusal;
 use volume::heading::read_header;
-use volume::refuse;
 ghost use mathlib.Core.Path.{_≡_};
 ghost use Prim.Native.Nat.{_+_, _≤_};
 ghost use lib.ListN.{length};

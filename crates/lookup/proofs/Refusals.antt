@@ -6,8 +6,8 @@ use mathlib.Core.Option.{Option, none, some}
 use mathlib.Core.List.{List}
 use lib.Dec.{eqb, ltb}
 use borrow.Author.Tests.{eqb-false}
+use Rattle.refusal.specs.Refusal.{refusalOf}
 use Rattle.block.specs.Fields.{sizeAt, restAt}
-use Rattle.volume.specs.Heading.{refusalOf}
 use Rattle.runs.specs.Positions.{keeper}
 use Rattle.lookup.specs.Lookup.{lookupFault, placeFor, positionAnswer}
 use Rattle.lookup.specs.declared.PositionAnswer.{PositionAnswer}

@@ -13,12 +13,12 @@ use lib.Dec.{ltb, eqb}
 use borrow.Author.Tests.{ltb-true, eqb-true, eq-eqb}
 use Rattle.checks.specs.Checks.{Check, check, firstFault}
 use Rattle.checks.proofs.Scan.{any-nowhere}
+use Rattle.refusal.specs.Refusal.{refusalOf}
+use Rattle.refusal.specs.declared.Refusal.{Refusal}
 use Rattle.format.specs.declared.Extent.{Extent}
 use Rattle.format.specs.Extents.{keptLength}
 use Rattle.extent.specs.Extents.{extentAt, extentCount}
 use Rattle.block.specs.Fields.{sizeAt, restAt}
-use Rattle.volume.specs.declared.Refusal.{Refusal}
-use Rattle.volume.specs.Heading.{refusalOf}
 use Rattle.runs.specs.Positions.{keeper}
 use Rattle.runs.specs.Runs.{runCount}
 use Rattle.lookup.specs.declared.PositionAnswer.the-variants.{PastEnd, Refused}

@@ -8,13 +8,13 @@ use lib.ListN.{length}
 use Rattle.number.specs.Number.{numberAt, put}
 use Rattle.checks.specs.Checks.{Check, check, firstFault}
 use Rattle.checks.specs.Scan.{anyBelow}
+use Rattle.refusal.specs.Refusal.{refusalOf}
 use Rattle.format.specs.declared.Extent.{Extent}
 use Rattle.format.specs.Extents.{keptLength, footprint}
 use Rattle.format.specs.Blocks.{Kind, inodeBlock, linkBlock, unlinkBlock, xattrBlock, removedXattrBlock, dataBlock, renameBlock, linkTable, FileType, regular, symbolicLink, other}
 use Rattle.extent.specs.Extents.{extentAt, extentCount}
 use Rattle.block.specs.Fields.{kindAt, typeAt, sizeAt, restAt}
 use Rattle.block.specs.Order.{blockOrder}
-use Rattle.volume.specs.Heading.{refusalOf}
 use Rattle.runs.specs.Positions.{storedAt, keeper}
 use Rattle.runs.specs.Runs.{runCount, rangeNumbers}
 use Rattle.lookup.specs.declared.PositionAnswer.{PositionAnswer}

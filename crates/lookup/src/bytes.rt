@@ -1,6 +1,6 @@
 // Fetching stored bytes: the very part of one of two lent volumes.
-use block::numbers::NOT_THERE;
 use format::Physical;
+use refusal::NOT_THERE;
 ghost use mathlib.Core.Path.{_≡_};
 ghost use Prim.Native.Nat.{_+_, _≤_};
 ghost use lib.Dec.{ltb};

@@ -2,10 +2,10 @@
 use crate::presence::ENTRY_LEN;
 use crate::presence::some_absent;
 use crate::presence::some_stray;
-use block::numbers::NOT_REGULAR_FILE;
-use block::numbers::NOT_THERE;
-use block::numbers::OVER_LIMIT;
-use block::numbers::STRAY;
+use refusal::NOT_REGULAR_FILE;
+use refusal::NOT_THERE;
+use refusal::OVER_LIMIT;
+use refusal::STRAY;
 ghost use mathlib.Core.Path.{_≡_};
 ghost use Prim.Native.Nat.{_+_, _≤_, _<_};
 ghost use lib.ListN.{length};

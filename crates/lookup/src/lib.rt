@@ -8,7 +8,7 @@ mod presence;
 pub mod query;
 
 use format::Physical;
-use volume::Refusal;
+use refusal::Refusal;
 
 // A stored byte: the volume that holds it, and where.
 pub struct Stored {

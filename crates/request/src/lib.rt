@@ -4,11 +4,11 @@
 // its contract can say two things of it: the answer is its first fault, or 0; and it is sized, whether it is refused or not,
 // which the types of the arguments give. Crate `volume` makes the call between the checks of the place and those of time and
 // room. A data block has no call here, since a payload has no checks.
-use block::numbers::LINK_TWICE;
-use block::numbers::MAX_LINKS;
-use block::numbers::NOT_TEXT;
-use block::numbers::OVER_LIMIT;
-use block::numbers::RULE_BROKEN;
+use block::limits::MAX_LINKS;
+use refusal::LINK_TWICE;
+use refusal::NOT_TEXT;
+use refusal::OVER_LIMIT;
+use refusal::RULE_BROKEN;
 ghost use mathlib.Core.Path.{_≡_};
 ghost use Rattle.checks.specs.Checks.{firstFault};
 ghost use Rattle.request.specs.Requests.{Inode, Link, Unlink, Xattr, RemovedXattr, Rename, Table, requestOrder};

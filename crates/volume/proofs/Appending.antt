@@ -12,17 +12,18 @@ use Rattle.number.specs.Number.{put}
 use Rattle.checks.specs.Checks.{clear, miss}
 use Rattle.checks.proofs.Laws.{passed, passed-part, decided, none-append}
 use Rattle.checks.proofs.Tests.{eq-neb}
+use Rattle.refusal.specs.Refusal.{refusalOf}
+use Rattle.refusal.specs.declared.Refusal.{Refusal}
 use Rattle.format.specs.Blocks.{Block, image}
 use Rattle.format.specs.Headers.{Header, headerImage, HeaderRules}
 use Rattle.block.specs.Order.{volumeLimit}
-use Rattle.volume.specs.Heading.{firstMark, refusalOf}
+use Rattle.volume.specs.Heading.{firstMark}
 use Rattle.volume.specs.Reading.{markAfter}
 use Rattle.request.specs.Requests.{Request, isTable, timeIn, imageIn, requestOrder}
 use Rattle.request.specs.Asking.{requestFor, Sized}
 use Rattle.volume.specs.Writing.{placeOrder, appendOrder, appendFault, appendAnswer, appendBuffer}
 use Rattle.volume.specs.Writing.{SizedHeader, writeOrder, writeFault, writeAnswer, writeBuffer}
 use Rattle.volume.specs.declared.Bookmark.{Bookmark}
-use Rattle.volume.specs.declared.Refusal.{Refusal}
 use Rattle.volume.specs.declared.WriteAnswer.{WriteAnswer}
 use Rattle.volume.specs.declared.WriteAnswer.the-variants.{Next, Refused}
 use Rattle.volume.proofs.HeaderImage.{hash-rule, hash-right}

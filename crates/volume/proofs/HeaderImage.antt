@@ -16,12 +16,13 @@ use Rattle.checks.specs.Checks.{clear, miss}
 use Rattle.checks.proofs.Laws.{passed, decided}
 use Rattle.checks.proofs.Tests.{eq-neb}
 use Rattle.crc32.specs.Crc.{crc}
+use Rattle.refusal.specs.Refusal.{refusalOf}
 use Rattle.format.specs.Layout.{sealed}
 use Rattle.format.specs.Headers.{Header, magic, headerFields, headerImage, noHash, HeaderRules}
 use Rattle.format.proofs.Seal.{length-sealed, seal-part, part-sealed}
 use Rattle.block.specs.Order.{volumeLimit, sumWrong}
 use Rattle.volume.specs.Heading.{idOf, sequenceOf, previousOf, hashWrong, headerOrder, headerFault}
-use Rattle.volume.specs.Heading.{firstMark, refusalOf, headerAnswer}
+use Rattle.volume.specs.Heading.{firstMark, headerAnswer}
 use Rattle.volume.specs.declared.Header.{Header as Given}
 use Rattle.volume.specs.declared.HeaderAnswer.{HeaderAnswer}
 use Rattle.volume.specs.declared.HeaderAnswer.the-variants.{Accepted, Refused}

@@ -9,8 +9,8 @@ use lib.Dec.{eqb}
 use lib.ListN.{length}
 use borrow.Author.Tests.{ltb-false, eqb-true, eqb-false, eq-eqb, ne-eqb}
 use Rattle.checks.proofs.Laws.{passed}
+use Rattle.refusal.specs.Refusal.{refusalOf}
 use Rattle.block.specs.Shown.{blockAt}
-use Rattle.volume.specs.Heading.{refusalOf}
 use Rattle.volume.specs.Reading.{isEnd, readOrder, readFault, nextMark, readAnswer}
 use Rattle.volume.specs.Checking.{judge, scan, checkFrom}
 use Rattle.volume.specs.declared.Bookmark.{Bookmark}

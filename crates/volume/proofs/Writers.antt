@@ -12,6 +12,8 @@ use borrow.Author.Tests.{ltb-false, eqb-true, not-false, eq-eqb, ne-eqb}
 use Rattle.number.specs.Number.{put}
 use Rattle.checks.specs.Checks.{Check, check, firstFault}
 use Rattle.checks.proofs.Laws.{numbered, passed, firstFault-append}
+use Rattle.refusal.specs.Refusal.{refusalOf}
+use Rattle.refusal.specs.declared.Refusal.{Refusal}
 use Rattle.format.specs.Blocks.{inodeBlock, linkBlock, unlinkBlock, xattrBlock, removedXattrBlock, dataBlock, renameBlock, linkTable}
 use Rattle.format.specs.Headers.{Header, headerImage}
 use Rattle.encode.specs.Images.{sizeOf}
@@ -19,12 +21,11 @@ use Rattle.encode.proofs.Lengths.{length-imageOf}
 use Rattle.request.specs.Requests.{Request, Inode, Link, Unlink, Xattr, RemovedXattr, Data, Rename, Table}
 use Rattle.request.specs.Requests.{kindIn, isTable, bodyIn, timeIn, imageIn, overLimit, requestOrder}
 use Rattle.request.specs.Asking.{Sized}
-use Rattle.volume.specs.Heading.{firstMark, refusalOf}
+use Rattle.volume.specs.Heading.{firstMark}
 use Rattle.volume.specs.Reading.{markAfter}
 use Rattle.volume.specs.Writing.{placeOrder, askedOrder, appendOrder, appendFault, appendAnswer, appendBuffer}
 use Rattle.volume.specs.Writing.{SizedHeader, writeOrder, writeFault, writeAnswer, writeBuffer}
 use Rattle.volume.specs.declared.Bookmark.{Bookmark}
-use Rattle.volume.specs.declared.Refusal.{Refusal}
 use Rattle.volume.specs.declared.WriteAnswer.the-variants.{Next, Refused}
 
 -- How long an image is, also where a length does not fit its field.

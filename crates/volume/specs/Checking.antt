@@ -2,7 +2,8 @@
 use Prim.Native.Nat.{ℕ, zero, suc}
 use mathlib.Core.List.{List}
 use lib.ListN.{length}
-use Rattle.volume.specs.Heading.{refusalOf, headerAnswer}
+use Rattle.refusal.specs.Refusal.{refusalOf}
+use Rattle.volume.specs.Heading.{headerAnswer}
 use Rattle.volume.specs.Reading.{readAnswer}
 use Rattle.volume.specs.declared.Bookmark.{Bookmark}
 use Rattle.volume.specs.declared.HeaderAnswer.{HeaderAnswer}

@@ -8,11 +8,11 @@ use Rattle.number.specs.Number.{numberAt, part}
 use Rattle.number.specs.Same.{sameBytes}
 use Rattle.number.specs.Address.{Address, addressIn}
 use Rattle.checks.specs.Checks.{Check, check, firstFault}
+use Rattle.refusal.specs.Refusal.{refusalOf}
 use Rattle.format.specs.Headers.{magic, noHash}
 use Rattle.block.specs.Order.{volumeLimit, sumWrong}
 use Rattle.volume.specs.declared.LastTime.the-variants.{Never}
 use Rattle.volume.specs.declared.Bookmark.{Bookmark}
-use Rattle.volume.specs.declared.Refusal.{Refusal}
 use Rattle.volume.specs.declared.HeaderAnswer.{HeaderAnswer}
 use Rattle.volume.specs.declared.HeaderAnswer.the-variants.{Accepted, Refused}
 
@@ -60,9 +60,6 @@ headerFault volume = firstFault (headerOrder volume)
 -- the bookmark after a header: offset 80, no last time yet, and in every volume but volume 0 a table is due
 abbrev pub firstMark : (sequence : ℕ) → Bookmark
 firstMark sequence = record { offset = 80; due = ltb 0 sequence; last = Never }
-
-abbrev pub refusalOf : (number : ℕ) → Refusal
-refusalOf number = record { number = number }
 
 unfoldable pub headerAnswer : (volume : List ℕ) → HeaderAnswer
 headerAnswer volume =

@@ -6,10 +6,10 @@ use mathlib.Core.List.{List, [], _∷_, _++_}
 use lib.Dec.{leb, ltb, eqb}
 use lib.ListN.{length}
 use Rattle.checks.specs.Checks.{Check, check, firstFault}
+use Rattle.refusal.specs.Refusal.{refusalOf}
 use Rattle.block.specs.Fields.{kindAt, bodyEnd}
 use Rattle.block.specs.Order.{volumeLimit, blockOrder}
 use Rattle.block.specs.Shown.{blockAt, timeOfBlock}
-use Rattle.volume.specs.Heading.{refusalOf}
 use Rattle.volume.specs.declared.LastTime.{LastTime}
 use Rattle.volume.specs.declared.LastTime.the-variants.{Never, At}
 use Rattle.volume.specs.declared.Bookmark.{Bookmark}

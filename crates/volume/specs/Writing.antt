@@ -7,10 +7,11 @@ use lib.Dec.{ltb, eqb}
 use lib.ListN.{length}
 use Rattle.number.specs.Number.{Bytes, put}
 use Rattle.checks.specs.Checks.{Check, check, firstFault}
+use Rattle.refusal.specs.Refusal.{refusalOf}
 use Rattle.format.specs.Headers.{Header, headerImage}
 use Rattle.block.specs.Order.{volumeLimit}
 use Rattle.request.specs.Requests.{Request, isTable, timeIn, imageIn, requestOrder}
-use Rattle.volume.specs.Heading.{hashWrong, firstMark, refusalOf}
+use Rattle.volume.specs.Heading.{hashWrong, firstMark}
 use Rattle.volume.specs.Reading.{mayFollow, markAfter}
 use Rattle.volume.specs.declared.Bookmark.{Bookmark}
 use Rattle.volume.specs.declared.WriteAnswer.{WriteAnswer}

@@ -9,8 +9,7 @@ pub mod reading;
 pub mod writing;
 
 use block::Block;
-ghost use mathlib.Core.Path.{_≡_};
-ghost use Rattle.volume.specs.Heading.{refusalOf};
+use refusal::Refusal;
 
 // The last time in the volume so far, if there is one.
 pub enum LastTime {
@@ -24,11 +23,6 @@ pub struct Bookmark {
     // Whether a link table is due here.
     pub due: bool,
     pub last: LastTime,
-}
-
-// Why a call refuses: the number of the list of refusals.
-pub struct Refusal {
-    pub number: u64,
 }
 
 // What a sound header gives.
@@ -77,11 +71,4 @@ pub enum Verdict {
 pub enum WriteAnswer {
     Next(Bookmark),
     Refused(Refusal),
-}
-
-// Internal: the one place that makes a refusal.
-pub fn refuse(number: u64) -> Refusal
-    ensures { λ r. ⌜ r ≡ refusalOf number ⌝ }
-{
-    Refusal { number }
 }

@@ -8,7 +8,7 @@ use borrow.Author.Needs.{needs}
 use Rattle.io.specs.Counts.{Counts}
 use Rattle.number.specs.Number.{put}
 use Rattle.number.proofs.Put.{length-put, part-put}
-use Rattle.volume.specs.declared.Refusal.{Refusal}
+use Rattle.refusal.specs.declared.Refusal.{Refusal}
 use Rattle.listing.specs.Listing.{listLimit, listing, listAnswer}
 use Rattle.listing.specs.declared.ListAnswer.the-variants.{Written, Refused}
 use Rattle.listing.proofs.Room.{listing-short, listing-fits}

@@ -7,7 +7,7 @@ use lib.ListN.{length}
 use borrow.Author.Tests.{le-leb, lt-leb}
 use Rattle.number.specs.Number.{put}
 use Rattle.number.proofs.Put.{put-past}
-use Rattle.volume.specs.Heading.{refusalOf}
+use Rattle.refusal.specs.Refusal.{refusalOf}
 use Rattle.listing.specs.declared.ListAnswer.the-variants.{Written, Refused}
 use Rattle.listing.specs.Listing.{listing, listAnswer}
 use Rattle.listing.specs.Writing.{Wrote}

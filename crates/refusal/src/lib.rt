@@ -1,4 +1,8 @@
-// The numbers that calls refuse with, each with its meaning, and the limits of a volume and of a table.
+// A refusal: the number that says why a call refuses, and what each number means.
+//
+// Every crate whose calls can refuse takes the numbers from here, and makes its refusals by `refuse`.
+ghost use mathlib.Core.Path.{_≡_};
+ghost use Rattle.refusal.specs.Refusal.{refusalOf};
 
 // The volume has more bytes than are allowed.
 pub const TOO_LARGE: u64 = 1;
@@ -38,11 +42,14 @@ pub const ROOM_TOO_SMALL: u64 = 17;
 // An extent keeps a byte of a block of size 0. No call gives it: such an extent keeps nothing.
 pub const STRAY: u64 = 18;
 
-// The most bytes that a volume may have.
-pub const VOLUME_LIMIT: usize = 16777216;
+// Why a call refuses: the number of the list of refusals.
+pub struct Refusal {
+    pub number: u64,
+}
 
-// Blocks begin after the header.
-pub const HEADER_LEN: usize = 80;
-
-// The most links that a table may have.
-pub const MAX_LINKS: u64 = 4096;
+// Internal: the one place that makes a refusal.
+pub fn refuse(number: u64) -> Refusal
+    ensures { λ r. ⌜ r ≡ refusalOf number ⌝ }
+{
+    Refusal { number }
+}
