@@ -1,16 +1,17 @@
 -- A kind's table of checks, answered by parts: the fixed fields, then the end of the block, then what its variable parts hold.
 -- Assumes nothing.
-use mathlib.Core.Path.{_≡_, refl, sym, _∙_}
-use mathlib.Core.Bool.{Bool, true, false, not, cond, _||_}
+use mathlib.Core.Path.{_≡_, refl}
+use mathlib.Core.Bool.{Bool, not, cond}
 use mathlib.Core.List.{List, [], _∷_, _++_}
 use Prim.Native.Nat.{ℕ, _+_, _-_, _≤_}
 use native.Mathlib.Nat.{add-zero}
 use lib.Dec.{T, ltb}
 use lib.ListN.{length, drop}
-use borrow.Author.Tests.{le-ltb, eq-eqb, ne-eqb}
+use borrow.Author.Tests.{le-ltb}
 use Rattle.number.specs.Number.{part}
-use Rattle.checks.specs.Checks.{Check, check, Decides, miss, firstFault}
-use Rattle.checks.proofs.Laws.{decided, rest, numbered, faultAt, passed, passed-part, firstFault-append}
+use Rattle.number.proofs.Parts.{part-span, span-length}
+use Rattle.checks.specs.Checks.{Check, check, miss, firstFault}
+use Rattle.checks.proofs.Laws.{decided, rest, numbered, passed-part, continued, either}
 use Rattle.checks.proofs.Tests.{told-not}
 use Rattle.utf8.specs.Length.{isText}
 use Rattle.format.specs.Blocks.{Kind, inodeBlock, linkBlock, unlinkBlock, xattrBlock, removedXattrBlock, dataBlock, renameBlock, linkTable, FileType}
@@ -18,30 +19,6 @@ use Rattle.links.specs.Links.{linkStart}
 use Rattle.block.specs.Fields.{kindAt, before, fieldAt, bodyLength, bodyEnd, typeAt, sizeAt, restAt}
 use Rattle.block.specs.Order.{tooLong, overCount, restCut, checksumWrong, notText, ruleBroken, rangesOverlap, linkTwice, kindOrder, blockOrder}
 use Rattle.block.specs.Parts.{sealedOrder, textOrder, pathsOrder, restOrder, linksOrder}
-use Rattle.block.proofs.Places.{part-span, span-length}
-
--- a table in two parts: the first part's fault stands
-pub stopped : (a b : List Check) {m : ℕ} → T (numbered a) → m ≡ firstFault a → (m ≡ 0 → ⊥) → m ≡ firstFault (a ++ b)
-stopped a b {m} p e h = rw (firstFault-append a b p, ← e, ne-eqb m 0 h)
-
--- where it has none, the second part answers
-pub continued : (a b : List Check) {m n : ℕ} → T (numbered a) → m ≡ firstFault a → m ≡ 0 → n ≡ firstFault b
-    → n ≡ firstFault (a ++ b)
-continued a b {m} p e z f = rw (firstFault-append a b p, ← e, eq-eqb m 0 z, f)
-
--- and each of its checks is passed
-pub passed-told : (k : ℕ) (a : List Check) {m : ℕ} → T (numbered a) → m ≡ firstFault a → m ≡ 0 → faultAt k a ≡ false
-passed-told k a p e z = passed k a p (sym e ∙ z)
-
--- a check of two faults is two checks with the same number
-either : (x y : Bool) (n m : ℕ) → cond (x || y) n m ≡ cond x n (cond y n m)
-either true y n m = refl
-either false y n m = refl
-
-pub either-side : {x y : Bool} {n m : ℕ} {checks : List Check}
-    → Decides (check x n ∷ check y n ∷ checks) m → Decides (check (x || y) n ∷ checks) m
-unfolding firstFault
-either-side {x} {y} {n} {m} {checks} d = rest (decided d ∙ sym (either x y n (firstFault checks)))
 
 -- a text that is tested after a table without a fault, as the part of the volume between two offsets
 pub text-next : (a : List Check) (volume : List ℕ) (from n : ℕ) {m : ℕ} {r t : Bool} → T (numbered a) → m ≡ firstFault a → m ≡ 0

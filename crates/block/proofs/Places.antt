@@ -1,30 +1,15 @@
--- Parts of a volume between two offsets, the kind that an ID has, and that a block without a fault lies within the volume.
+-- The kind that an ID has, and that a block without a fault lies within the volume.
 -- Assumes nothing.
 use mathlib.Core.Path.{_≡_}
 use mathlib.Core.List.{List}
-use Prim.Native.Nat.{ℕ, _+_, _-_, _≤_}
-use native.Mathlib.Nat.{add-sub-cancel-left}
-use native.Mathlib.Omega.{arith}
-use lib.ListN.{length, drop, length-take, length-drop}
-use lib.Seq.{take-length}
+use Prim.Native.Nat.{ℕ, _+_, _≤_}
+use lib.ListN.{length}
 use borrow.Author.Tests.{ltb-false, ne-eqb}
-use Rattle.number.specs.Number.{part}
 use Rattle.checks.specs.Checks.{firstFault}
 use Rattle.checks.proofs.Laws.{passed}
 use Rattle.format.specs.Blocks.{Kind, linkTable}
 use Rattle.block.specs.Fields.{kindWith, kindAt, fieldAt, bodyEnd}
 use Rattle.block.specs.Order.{overCount, kindOrder}
-
--- the part from an offset to another is as long as they are apart
-pub part-span : (volume : List ℕ) (from n : ℕ) → part volume from (from + n - from) ≡ part volume from n
-part-span volume from n = rw add-sub-cancel-left
-
-pub span-length : (volume : List ℕ) (from n : ℕ) → from + n ≤ length volume → length (part volume from (from + n - from)) ≡ n
-span-length volume from n h = simp (length-take, length-drop) (omega arith)
-
--- the part from an offset to the end
-pub part-onward : (volume : List ℕ) (from : ℕ) → part volume from (length volume - from) ≡ drop from volume
-part-onward volume from = rw (← length-drop from volume) (take-length (drop from volume))
 
 -- what is none of the first seven kinds is taken as a table; the premise has the form that a `match` hands over
 pub last-kind : (id : ℕ)

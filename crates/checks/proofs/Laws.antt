@@ -1,13 +1,14 @@
--- `firstFault` computes what `Decides` says; a table that finds no fault clears each of its checks; two tables in a row.
--- Assumes nothing.
-use mathlib.Core.Path.{_≡_, refl, _∙_}
-use mathlib.Core.Bool.{Bool, true, false, cond}
+-- `firstFault` computes what `Decides` says; a table that finds no fault clears each of its checks; two tables in a row; the checks
+-- that a number can come from. Assumes nothing.
+use mathlib.Core.Path.{_≡_, refl, sym, _∙_}
+use mathlib.Core.Bool.{Bool, true, false, cond, _||_}
 use mathlib.Core.List.{List, [], _∷_, _++_}
 use Prim.Native.Nat.{ℕ, zero, suc}
 use native.Mathlib.Nat.{suc-ne-zero}
 use lib.Dec.{T, eqb, eqb·suc-zero}
 use lib.ListN.{take, drop}
 use lib.Seq.{take-nil, drop-nil}
+use borrow.Author.Tests.{eq-eqb, ne-eqb}
 use Rattle.checks.specs.Checks.{Check, check, Decides, clear, hit, miss, firstFault}
 
 -- every table gives an answer
@@ -72,3 +73,42 @@ firstFault-append (check false (suc n) ∷ a) b p = firstFault-append a b p
 
 pub none-append : (a b : List Check) → T (numbered a) → firstFault a ≡ 0 → firstFault b ≡ 0 → firstFault (a ++ b) ≡ 0
 none-append a b p e f = firstFault-append a b p ∙ rw (e, f)
+
+-- where the first part of a table has a fault, it stands
+pub stopped : (a b : List Check) {m : ℕ} → T (numbered a) → m ≡ firstFault a → (m ≡ 0 → ⊥) → m ≡ firstFault (a ++ b)
+stopped a b {m} p e h = rw (firstFault-append a b p, ← e, ne-eqb m 0 h)
+
+-- where it has none, the second part answers
+pub continued : (a b : List Check) {m n : ℕ} → T (numbered a) → m ≡ firstFault a → m ≡ 0 → n ≡ firstFault b
+    → n ≡ firstFault (a ++ b)
+continued a b {m} p e z f = rw (firstFault-append a b p, ← e, eq-eqb m 0 z, f)
+
+-- and each of its checks is passed
+pub passed-told : (k : ℕ) (a : List Check) {m : ℕ} → T (numbered a) → m ≡ firstFault a → m ≡ 0 → faultAt k a ≡ false
+passed-told k a p e z = passed k a p (sym e ∙ z)
+
+-- a check of two faults is two checks with the same number
+pub either : (x y : Bool) (n m : ℕ) → cond (x || y) n m ≡ cond x n (cond y n m)
+either true y n m = refl
+either false y n m = refl
+
+pub either-side : {x y : Bool} {n m : ℕ} {checks : List Check}
+    → Decides (check x n ∷ check y n ∷ checks) m → Decides (check (x || y) n ∷ checks) m
+unfolding firstFault
+either-side {x} {y} {n} {m} {checks} d = rest (decided d ∙ sym (either x y n (firstFault checks)))
+
+-- whether a check that is at fault has this number
+abbrev pub gives : (number : ℕ) → List Check → Bool
+gives number [] = false
+gives number (check fault other ∷ checks) = cond (eqb other number) (fault || gives number checks) (gives number checks)
+
+-- a number above 0 is given only by a check that has it
+pub given : (number : ℕ) (checks : List Check) → (number ≡ 0 → ⊥) → firstFault checks ≡ number → gives number checks ≡ true
+unfolding firstFault
+given number [] n e = absurd (n (sym e))
+given number (check true other ∷ checks) n e = rw (eq-eqb other number e)
+given number (check false other ∷ checks) n e = go (eqb other number) (given number checks n e)
+  where
+    go : (t : Bool) → gives number checks ≡ true → cond t (gives number checks) (gives number checks) ≡ true
+    go true h = h
+    go false h = h

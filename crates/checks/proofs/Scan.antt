@@ -1,7 +1,7 @@
 -- What a scan keeps up while it finds nothing, and what `anyBelow` says either way. Assumes nothing.
 use mathlib.Core.Path.{_≡_, refl, sym, _∙_}
-use mathlib.Core.Bool.{Bool, true, false, true≢false}
-use mathlib.Core.Logic.{⊎-elim}
+use mathlib.Core.Bool.{Bool, true, false, true≢false, _||_}
+use mathlib.Core.Logic.{_⊎_, inl, inr, ⊎-elim}
 use mathlib.Mathlib.Data.Bool.Basic.{dichotomy, or-inl, or-inr}
 use Prim.Native.Nat.{ℕ, zero, suc, _+_, _<_}
 use native.Mathlib.Nat.{eq-or-lt-of-le, le-of-suc-le-suc, not-suc-le-zero}
@@ -12,6 +12,11 @@ use Rattle.checks.specs.Scan.{anyBelow, anyPairBelow}
 -- a Bool is not both
 pub never : {A : Type 0} {b : Bool} → b ≡ true → b ≡ false → A
 never t f = absurd (true≢false (sym t ∙ f))
+
+-- where one of two is true, it is the first or the second
+pub or-cases : (a b : Bool) → (a || b) ≡ true → (a ≡ true) ⊎ (b ≡ true)
+or-cases true b h = inl refl
+or-cases false b h = inr h
 
 module _ (test : ℕ → Bool) where
   -- nothing lies below 0

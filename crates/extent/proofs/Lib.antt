@@ -1,4 +1,3 @@
-pub mod Fields
 pub mod Quotient
 pub mod Sound
 pub mod Share

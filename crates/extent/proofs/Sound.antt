@@ -1,6 +1,6 @@
 -- The rules of one extent as facts: `isSound` tests just these, and with fields that fit they are the format's rules. Assumes nothing.
 use Prim.Native.Nat.{ℕ, _+_, _*_, _^_, _≤_, _<_}
-use mathlib.Core.Path.{_≡_, refl}
+use mathlib.Core.Path.{_≡_}
 use mathlib.Core.Bool.{Bool, true, false, not, _||_, and-eq-true-iff}
 use mathlib.Core.Logic.{_⊎_, inl, inr, ⊎-elim}
 use mathlib.Mathlib.Data.Bool.Basic.{dichotomy, or-inl, or-inr}
@@ -9,7 +9,7 @@ use lib.Dec.{leb, eqb}
 use borrow.Author.Tests.{leb-true, eqb-true, le-leb, eq-eqb, not-false}
 use Rattle.number.specs.Number.{Bytes, numberAt}
 use Rattle.number.proofs.Digits.{numberAt-lt}
-use Rattle.checks.proofs.Scan.{any-false}
+use Rattle.checks.proofs.Scan.{or-cases, any-false}
 use Rattle.format.specs.declared.Extent.{Extent}
 use Rattle.format.specs.Layout.{Fit}
 use Rattle.format.specs.Extents.{extentWidths, extentFields, top, rawLength, keptLength, footprint, ExtentRules}
@@ -23,10 +23,6 @@ pub record Bounded (e : Extent) : Type 0 where
   pub within : e .pre + e .post ≤ rawLength e
   pub logical : e .logical .0 + keptLength e ≤ top
   pub physical : e .start .0 + footprint e ≤ top
-
-pub or-cases : (a b : Bool) → (a || b) ≡ true → (a ≡ true) ⊎ (b ≡ true)
-or-cases true b h = inl refl
-or-cases false b h = inr h
 
 pub sound-bounded : (e : Extent) → isSound e ≡ true → Bounded e
 unfolding isSound

@@ -14,9 +14,9 @@ use borrow.Author.Tests.{lt-ltb, le-ltb, leb-true, leb-false, eq-eqb, ne-eqb}
 use Rattle.number.specs.Number.{put}
 use Rattle.number.proofs.Put.{put-past}
 use Rattle.checks.specs.Checks.{check, firstFault}
+use Rattle.checks.proofs.Laws.{stopped, continued}
 use Rattle.refusal.specs.Refusal.{refusalOf}
 use Rattle.block.specs.Fields.{sizeAt, restAt}
-use Rattle.block.proofs.Faults.{stopped, continued}
 use Rattle.runs.specs.declared.Place.{Place}
 use Rattle.runs.specs.declared.Place.the-variants as place
 use Rattle.runs.specs.declared.Counted.{Counted}

@@ -4,10 +4,9 @@ use mathlib.Core.Path.{_≡_}
 use mathlib.Core.Bool.{false}
 use mathlib.Core.List.{List, [], _∷_}
 use Rattle.checks.specs.Checks.{Check, check, miss, firstFault}
-use Rattle.checks.proofs.Laws.{decided, rest}
+use Rattle.checks.proofs.Laws.{decided, rest, stopped, continued}
 use Rattle.block.specs.Fields.{restAt}
 use Rattle.block.specs.Order.{blockOrder}
-use Rattle.block.proofs.Faults.{stopped, continued}
 use Rattle.lookup.specs.Lookup.{lengthsWrong, notFile, someAbsent, someStray, lookupFault}
 
 -- the checks after those of the block: 15, 16, 18

@@ -1,17 +1,17 @@
 -- No lookup is refused with 18: an extent whose blocks have size 0 has no raw bytes (S×C is 0), so L is 0 and it keeps
 -- nothing, whatever its other fields say. The check stands in the table, and is never at fault. Assumes nothing.
 use Prim.Native.Nat.{ℕ}
-use mathlib.Core.Path.{_≡_, sym, ap, _∙_}
-use mathlib.Core.Bool.{Bool, true, false, cond, _||_, and-eq-true-iff, false≢true}
+use mathlib.Core.Path.{_≡_, ap, _∙_}
+use mathlib.Core.Bool.{Bool, true, false, cond, and-eq-true-iff, false≢true}
 use mathlib.Core.Logic.{⊎-elim}
 use mathlib.Core.Option.{Option, none, some}
 use mathlib.Mathlib.Data.Bool.Basic.{dichotomy}
-use mathlib.Core.List.{List, [], _∷_}
+use mathlib.Core.List.{List}
 use native.Mathlib.Nat.{zero-mul}
 use native.Mathlib.Omega.{arith}
 use lib.Dec.{ltb, eqb}
-use borrow.Author.Tests.{ltb-true, eqb-true, eq-eqb}
-use Rattle.checks.specs.Checks.{Check, check, firstFault}
+use borrow.Author.Tests.{ltb-true, eqb-true}
+use Rattle.checks.proofs.Laws.{given}
 use Rattle.checks.proofs.Scan.{any-nowhere}
 use Rattle.refusal.specs.Refusal.{refusalOf}
 use Rattle.refusal.specs.declared.Refusal.{Refusal}
@@ -41,22 +41,6 @@ never-stray e =
 pub none-stray : (list : List ℕ) → someStray list ≡ false
 unfolding someStray
 none-stray list = any-nowhere (λ i. isStray (extentAt list i)) (extentCount list) (λ i l. never-stray (extentAt list i))
-
--- whether a check that is at fault has this number
-abbrev gives : (number : ℕ) → List Check → Bool
-gives number [] = false
-gives number (check fault other ∷ checks) = cond (eqb other number) (fault || gives number checks) (gives number checks)
-
--- a number above 0 is given only by a check that has it
-given : (number : ℕ) (checks : List Check) → (number ≡ 0 → ⊥) → firstFault checks ≡ number → gives number checks ≡ true
-unfolding firstFault
-given number [] n e = absurd (n (sym e))
-given number (check true other ∷ checks) n e = rw (eq-eqb other number e)
-given number (check false other ∷ checks) n e = go (eqb other number) (given number checks n e)
-  where
-    go : (t : Bool) → gives number checks ≡ true → cond t (gives number checks) (gives number checks) ≡ true
-    go true h = h
-    go false h = h
 
 pub lookup-never-gives-18 : (volume : List ℕ) (offset : ℕ) (lengths : List ℕ) → lookupFault volume offset lengths ≡ 18 → ⊥
 unfolding lookupFault

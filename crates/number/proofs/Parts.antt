@@ -1,10 +1,16 @@
--- The laws of `part`: its length, what it holds, two parts in a row, and the part that stands at an offset. Assumes nothing.
-use Prim.Native.Nat.{ℕ, _+_, _^_, _≤_, _<_}
+-- The laws of `part`: its length, what it holds, two parts in a row, the part that stands at an offset, and numbers read from one.
+-- Assumes nothing.
+use Prim.Native.Nat.{ℕ, _+_, _-_, _^_, _≤_, _<_, min}
 use mathlib.Core.Path.{_≡_, sym, ap, _∙_}
 use mathlib.Core.List.{List, _++_}
+use mathlib.Core.Logic.{⊎-elim}
+use mathlib.Mathlib.Data.Bool.Basic.{dichotomy}
+use native.Mathlib.Nat.{add-zero, add-sub-cancel-left, min-eq-left, min-eq-right}
 use native.Mathlib.Omega.{arith}
-use lib.ListN.{length, take, drop, getD, length-drop, take-append-drop}
-use lib.Seq.{length-take-le, take-add, drop-drop, take-at, drop-at, getD-take, getD-drop, take-append-le, drop-append-le}
+use lib.Dec.{ltb}
+use lib.ListN.{length, take, drop, getD, length-take, length-drop, drop-of-length-le, take-append-drop}
+use lib.Seq.{take-length, take-all, length-take-le, take-add, drop-drop, take-at, drop-at, getD-take, getD-drop, take-append-le, drop-append-le}
+use borrow.Author.Tests.{ltb-true, ltb-false}
 use Rattle.number.specs.Number.{Bytes, le, leBytes, part, numberAt}
 use Rattle.number.proofs.Digits.{bytes-take, bytes-drop, length-leBytes, le-leBytes, leBytes-le}
 
@@ -13,6 +19,17 @@ length-part bytes offset len h = length-take-le len (drop offset bytes) (omega (
 
 pub bytes-part : (bytes : List ℕ) (offset len : ℕ) → Bytes bytes → Bytes (part bytes offset len)
 bytes-part bytes offset len b = bytes-take len (drop offset bytes) (bytes-drop offset bytes b)
+
+-- the part from an offset to another is as long as they are apart
+pub part-span : (bytes : List ℕ) (from n : ℕ) → part bytes from (from + n - from) ≡ part bytes from n
+part-span bytes from n = rw add-sub-cancel-left
+
+pub span-length : (bytes : List ℕ) (from n : ℕ) → from + n ≤ length bytes → length (part bytes from (from + n - from)) ≡ n
+span-length bytes from n h = simp (length-take, length-drop) (omega arith)
+
+-- the part from an offset to the end
+pub part-onward : (bytes : List ℕ) (from : ℕ) → part bytes from (length bytes - from) ≡ drop from bytes
+part-onward bytes from = rw (← length-drop from bytes) (take-length (drop from bytes))
 
 -- what a part holds stands in the whole
 pub getD-part : (bytes : List ℕ) (offset len k : ℕ) → k < len → getD (part bytes offset len) k 0 ≡ getD bytes (offset + k) 0
@@ -54,3 +71,23 @@ pub number-at : (bytes rest : List ℕ) (offset width value : ℕ) → drop offs
     → value < 256 ^ width → numberAt bytes offset width ≡ value
 number-at bytes rest offset width value e h =
     ap le (part-at bytes (leBytes width value) rest offset width e (length-leBytes width value)) ∙ le-leBytes width value h
+
+-- past the end nothing is left, wherever the part begins
+drop-min : (bytes : List ℕ) (at : ℕ) → drop (min at (length bytes)) bytes ≡ drop at bytes
+drop-min bytes at =
+    ⊎-elim
+    (λ e.
+    let l : length bytes ≤ at = ltb-false at (length bytes) e in
+    rw (min-eq-right l) (drop-of-length-le bytes {i = length bytes} (omega arith) ∙ sym (drop-of-length-le bytes l)))
+    (λ e. rw (min-eq-left {n = at} {m = length bytes} (omega (arith, ltb-true at (length bytes) e))))
+    (dichotomy (ltb at (length bytes)))
+
+-- a number read from the part that begins at an offset, or at the end of the bytes where that comes first, is read in the whole
+pub number-from : (bytes : List ℕ) (at from offset width : ℕ) → from ≡ min at (length bytes)
+    → numberAt (take (length bytes - from) (drop from bytes)) offset width ≡ numberAt bytes (at + offset) width
+number-from bytes at from offset width e =
+    rw (take-all (length bytes - from) (drop from bytes) (simp length-drop (omega arith)), e, drop-min, drop-drop)
+
+pub number-first : (bytes : List ℕ) (at from width : ℕ) → from ≡ min at (length bytes)
+    → numberAt (take (length bytes - from) (drop from bytes)) 0 width ≡ numberAt bytes at width
+number-first bytes at from width e = rw add-zero at (number-from bytes at from 0 width e)

@@ -3,9 +3,8 @@
 use native.Mathlib.Omega.{arith}
 use borrow.Author.Needs.{needs}
 use Rattle.number.proofs.Digits.{bytes-append}
-use Rattle.checks.proofs.Laws.{decided}
+use Rattle.checks.proofs.Laws.{decided, either-side}
 use Rattle.checks.proofs.Tests.{walks}
-use Rattle.block.proofs.Faults.{either-side}
 use Rattle.request.specs.Requests.{Rename}
 use Rattle.request.specs.Asking.{Sized}
 use Rattle.request.proofs.rename_fault.Statement.{statement}

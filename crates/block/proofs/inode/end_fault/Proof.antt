@@ -4,10 +4,11 @@ use native.Mathlib.Omega.{arith}
 use lib.ListN.{length}
 use borrow.Author.Tests.{ltb-false}
 use borrow.Author.Needs.{needs}
+use Rattle.number.proofs.Parts.{span-length}
+use Rattle.checks.proofs.Laws.{stopped, continued, passed-told}
 use Rattle.format.specs.Blocks.{fileType}
 use Rattle.block.specs.Parts.{sealedOrder}
-use Rattle.block.proofs.Places.{span-length}
-use Rattle.block.proofs.Faults.{stopped, continued, passed-told, rest-told}
+use Rattle.block.proofs.Faults.{rest-told}
 use Rattle.block.proofs.inode.end_fault.Statement.{statement}
 use Rattle.block.proofs.inode.end_fault.Tie as tie
 

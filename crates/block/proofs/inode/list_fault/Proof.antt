@@ -1,8 +1,7 @@
 -- The first two tests are the two sides of the check of 11, and the third is the check of 12.
 use borrow.Author.Needs.{needs}
-use Rattle.checks.proofs.Laws.{decided}
+use Rattle.checks.proofs.Laws.{decided, either-side}
 use Rattle.checks.proofs.Tests.{told, walks}
-use Rattle.block.proofs.Faults.{either-side}
 use Rattle.block.proofs.inode.list_fault.Statement.{statement}
 use Rattle.block.proofs.inode.list_fault.Tie as tie
 

@@ -1,7 +1,6 @@
 -- The two tests are the two sides of the check of 11.
-use Rattle.checks.proofs.Laws.{decided}
+use Rattle.checks.proofs.Laws.{decided, either-side}
 use Rattle.checks.proofs.Tests.{walks}
-use Rattle.block.proofs.Faults.{either-side}
 use Rattle.block.proofs.inode.other_fault.Statement.{statement}
 use Rattle.block.proofs.inode.other_fault.Tie as tie
 

@@ -4,8 +4,9 @@ use native.Mathlib.Omega.{arith}
 use lib.ListN.{length}
 use borrow.Author.Needs.{needs}
 use borrow.Author.Tests.{ltb-false}
+use Rattle.checks.proofs.Laws.{stopped, passed-told}
 use Rattle.block.specs.Parts.{textOrder}
-use Rattle.block.proofs.Faults.{stopped, passed-told, text-next}
+use Rattle.block.proofs.Faults.{text-next}
 use Rattle.block.proofs.rename.paths_fault.Statement.{statement}
 use Rattle.block.proofs.rename.paths_fault.Tie as tie
 

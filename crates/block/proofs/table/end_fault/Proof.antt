@@ -4,9 +4,9 @@ use native.Mathlib.Omega.{arith}
 use lib.ListN.{length, length-drop}
 use borrow.Author.Tests.{ltb-false}
 use borrow.Author.Needs.{needs}
+use Rattle.number.proofs.Parts.{part-onward}
+use Rattle.checks.proofs.Laws.{stopped, continued, passed-told}
 use Rattle.block.specs.Parts.{sealedOrder}
-use Rattle.block.proofs.Places.{part-onward}
-use Rattle.block.proofs.Faults.{stopped, continued, passed-told}
 use Rattle.block.proofs.table.end_fault.Statement.{statement}
 use Rattle.block.proofs.table.end_fault.Tie as tie
 

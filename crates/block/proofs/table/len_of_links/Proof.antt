@@ -1,6 +1,6 @@
 -- The links stand from the offset to the end.
 use borrow.Author.Needs.{needs}
-use Rattle.block.proofs.Places.{part-onward}
+use Rattle.number.proofs.Parts.{part-onward}
 use Rattle.block.proofs.table.len_of_links.Statement.{statement}
 use Rattle.block.proofs.table.len_of_links.Tie as tie
 

@@ -1,7 +1,7 @@
 -- The n bytes that follow the fixed fields; the block ends within the volume.
 use borrow.Author.Needs.{needs}
+use Rattle.number.proofs.Parts.{part-span}
 use Rattle.block.specs.Fields.{bodyLength}
-use Rattle.block.proofs.Places.{part-span}
 use Rattle.lookup.proofs.faults.list_of.Statement.{statement}
 use Rattle.lookup.proofs.faults.list_of.Tie as tie
 

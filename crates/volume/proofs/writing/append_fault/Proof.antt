@@ -6,9 +6,8 @@ use mathlib.Core.List.{List, _∷_, _++_}
 use lib.Dec.{eqb}
 use borrow.Author.Needs.{needs}
 use Rattle.checks.specs.Checks.{Check, check, firstFault, hit, miss}
-use Rattle.checks.proofs.Laws.{decided, rest}
+use Rattle.checks.proofs.Laws.{decided, rest, stopped, continued}
 use Rattle.checks.proofs.Tests.{eq-neb, ne-neb}
-use Rattle.block.proofs.Faults.{stopped, continued}
 use Rattle.volume.specs.Reading.{asOption}
 use Rattle.volume.specs.Writing.{placeOrder, roomOrder}
 use Rattle.volume.specs.declared.Bookmark.{Bookmark}
