@@ -92,7 +92,7 @@ appended buffer mark request s = go (eqb (appendFault (length buffer) mark reque
   where
     go : (sound : Bool) → eqb (appendFault (length buffer) mark request) 0 ≡ sound
         → Appended buffer mark request
-        (cond sound (Next (markAfter (mark .offset + length (imageIn request)) (mark .last) (timeIn request)))
+        (cond sound (Next (markAfter mark (mark .offset + length (imageIn request)) (timeIn request)))
         (Refused (refusalOf (appendFault (length buffer) mark request))))
         (cond sound (put buffer (mark .offset) (imageIn request)) buffer)
     go true e =

@@ -40,7 +40,7 @@ pub record Allowed (mark : Bookmark) (block : Block) : Type 0 where
 
 -- the bookmark after a block
 abbrev pub after : Bookmark → Block → Bookmark
-after mark block = markAfter (mark .offset + length (image block)) (mark .last) (timeOf block)
+after mark block = markAfter mark (mark .offset + length (image block)) (timeOf block)
 
 pub follows : (last : LastTime) (time : Option ℕ) → mayFollow last time ≡ true → TimeFollows (asOption last) time
 unfolding mayFollow
@@ -95,7 +95,7 @@ sound-here volume mark b e =
         keeps = s .keeps;
         time = rw (← t) (follows (mark .last) _ (not-false _ (passed 13 order tt e)));
       };
-      next = ap₂ (λ end time. markAfter end (mark .last) time) (s .end) t;
+      next = ap₂ (λ end time. markAfter mark end time) (s .end) t;
       same = drop-part volume offset (length (image block)) ∙ ap₂ _++_ (s .same) (ap (λ (n : ℕ). drop n volume) (sym (s .end)));
     }
 
@@ -161,7 +161,7 @@ module _ (volume : List ℕ) (mark : Bookmark) (block : Block) (small : length v
       record {
         answer = rw (not-end volume mark more, no-fault more r kind time);
         same = same;
-        next = ap₂ (λ end time. markAfter end (mark .last) time) end time;
+        next = ap₂ (λ end time. markAfter mark end time) end time;
       }
 
 -- "end".

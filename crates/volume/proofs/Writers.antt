@@ -97,7 +97,7 @@ module _ {buffer : List ℕ} {mark : Bookmark} {request : Request} {body fault :
 
   -- an acceptance leaves the image in it, and the bookmark goes on by the image's length
   pub accepted : {new : List ℕ} {next : Bookmark} → fault ≡ 0 → new ≡ put buffer (mark .offset) (imageIn request)
-      → next ≡ markAfter (mark .offset + sizeOf (kindIn request) + body) (mark .last) (timeIn request)
+      → next ≡ markAfter mark (mark .offset + sizeOf (kindIn request) + body) (timeIn request)
       → (Next next ≡ appendAnswer (length buffer) mark request) × ((new ≡ appendBuffer buffer mark request) × Sized request)
   unfolding appendAnswer appendBuffer
   accepted z e f =

@@ -46,14 +46,14 @@ readOrder volume mark =
 unfoldable pub readFault : (volume : List ℕ) → Bookmark → ℕ
 readFault volume mark = firstFault (readOrder volume mark)
 
--- the bookmark after a block that ends at an offset: no table is due, and the block's time is the last, if it has one
-abbrev pub markAfter : (end : ℕ) → LastTime → (time : Option ℕ) → Bookmark
-markAfter end last time = record { offset = end; due = false; last = lastAfter last time }
+-- the bookmark after a block at a bookmark that ends at an offset: no table is due, and the block's time is the last, if it has one
+abbrev pub markAfter : Bookmark → (end : ℕ) (time : Option ℕ) → Bookmark
+markAfter mark end time = record { offset = end; due = false; last = lastAfter (mark .last) time }
 
 -- the bookmark after the block at a bookmark
 abbrev pub nextMark : (volume : List ℕ) → Bookmark → Bookmark
 nextMark volume mark =
-    markAfter (bodyEnd (kindAt volume (mark .offset)) volume (mark .offset) + 4) (mark .last)
+    markAfter mark (bodyEnd (kindAt volume (mark .offset)) volume (mark .offset) + 4)
     (timeOfBlock (blockAt volume (mark .offset)))
 
 unfoldable pub readAnswer : (volume : List ℕ) → Bookmark → ReadAnswer

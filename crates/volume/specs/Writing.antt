@@ -50,7 +50,7 @@ appendFault room mark request = firstFault (appendOrder room mark request)
 unfoldable pub appendAnswer : (room : ℕ) → Bookmark → Request → WriteAnswer
 appendAnswer room mark request =
     cond (eqb (appendFault room mark request) 0)
-    (Next (markAfter (mark .offset + length (imageIn request)) (mark .last) (timeIn request)))
+    (Next (markAfter mark (mark .offset + length (imageIn request)) (timeIn request)))
     (Refused (refusalOf (appendFault room mark request)))
 
 -- the buffer with the image at the bookmark's offset; as it was on refusal

@@ -57,10 +57,11 @@ pub(crate) fn may_follow(last: LastTime, time: LastTime) -> bool
     }
 }
 
-// The bookmark after a block that ends at `end`: the one place where a bookmark is made from another.
-pub(crate) fn mark_after(end: usize, last: LastTime, time: LastTime) -> Bookmark
-    ensures { λ r. ⌜ r ≡ markAfter end last (asOption time) ⌝ }
+// The bookmark after the block at `mark`, which ends at `end`: the one place where a bookmark is made from another.
+pub(crate) fn mark_after(mark: Bookmark, end: usize, time: LastTime) -> Bookmark
+    ensures { λ r. ⌜ r ≡ markAfter mark end (asOption time) ⌝ }
 {
+    let last = mark.last;
     match time {
         LastTime::Never => Bookmark {
             offset: end,
@@ -96,7 +97,7 @@ impl Bookmark {
         if !may_follow(last, time) {
             return ReadAnswer::Refused(refuse(TIME_NOT_GREATER));
         }
-        let next = mark_after(decoded.end, last, time);
+        let next = mark_after(self, decoded.end, time);
         ReadAnswer::Found(Found { block: found, next })
     }
 }

@@ -64,7 +64,6 @@ impl Bookmark {
         ensures sized { λ _. ⌜ Sized (Inode inode time mode uid gid atime mtime ctime btime size (now (rest .entry))) ⌝ }
     {
         let offset = self.offset;
-        let last = self.last;
         let body = rest.len();
         let when = LastTime::At(time);
         let asked = request::inode_fault(
@@ -99,7 +98,7 @@ impl Bookmark {
             size,
             rest,
         );
-        WriteAnswer::Next(mark_after(offset + INODE_SIZE + body, last, when))
+        WriteAnswer::Next(mark_after(self, offset + INODE_SIZE + body, when))
     }
 
     // Appends a link block.
@@ -118,7 +117,6 @@ impl Bookmark {
         ensures sized { λ _. ⌜ Sized (Link time child parent (now (name .entry))) ⌝ }
     {
         let offset = self.offset;
-        let last = self.last;
         let body = name.len();
         let when = LastTime::At(time);
         let asked = request::link_fault(time, child, parent, name);
@@ -127,7 +125,7 @@ impl Bookmark {
             return WriteAnswer::Refused(refuse(fault));
         }
         encode::write_link(buf, offset, time, child, parent, name);
-        WriteAnswer::Next(mark_after(offset + LINK_SIZE + body, last, when))
+        WriteAnswer::Next(mark_after(self, offset + LINK_SIZE + body, when))
     }
 
     // Appends an unlink block.
@@ -146,7 +144,6 @@ impl Bookmark {
         ensures sized { λ _. ⌜ Sized (Unlink time child parent (now (name .entry))) ⌝ }
     {
         let offset = self.offset;
-        let last = self.last;
         let body = name.len();
         let when = LastTime::At(time);
         let asked = request::unlink_fault(time, child, parent, name);
@@ -155,7 +152,7 @@ impl Bookmark {
             return WriteAnswer::Refused(refuse(fault));
         }
         encode::write_unlink(buf, offset, time, child, parent, name);
-        WriteAnswer::Next(mark_after(offset + LINK_SIZE + body, last, when))
+        WriteAnswer::Next(mark_after(self, offset + LINK_SIZE + body, when))
     }
 
     // Appends an xattr block.
@@ -174,7 +171,6 @@ impl Bookmark {
         ensures sized { λ _. ⌜ Sized (Xattr time inode (now (name .entry)) (now (value .entry))) ⌝ }
     {
         let offset = self.offset;
-        let last = self.last;
         let body = name.len() + value.len();
         let when = LastTime::At(time);
         let asked = request::xattr_fault(time, inode, name, value);
@@ -183,7 +179,7 @@ impl Bookmark {
             return WriteAnswer::Refused(refuse(fault));
         }
         encode::write_xattr(buf, offset, time, inode, name, value);
-        WriteAnswer::Next(mark_after(offset + XATTR_SIZE + body, last, when))
+        WriteAnswer::Next(mark_after(self, offset + XATTR_SIZE + body, when))
     }
 
     // Appends a removed xattr block.
@@ -201,7 +197,6 @@ impl Bookmark {
         ensures sized { λ _. ⌜ Sized (RemovedXattr time inode (now (name .entry))) ⌝ }
     {
         let offset = self.offset;
-        let last = self.last;
         let body = name.len();
         let when = LastTime::At(time);
         let asked = request::removed_xattr_fault(time, inode, name);
@@ -210,7 +205,7 @@ impl Bookmark {
             return WriteAnswer::Refused(refuse(fault));
         }
         encode::write_removed_xattr(buf, offset, time, inode, name);
-        WriteAnswer::Next(mark_after(offset + REMOVED_SIZE + body, last, when))
+        WriteAnswer::Next(mark_after(self, offset + REMOVED_SIZE + body, when))
     }
 
     // Appends a data block, whose payload has no checks of its own.
@@ -222,7 +217,6 @@ impl Bookmark {
         ensures sized { λ _. ⌜ Sized (Data time (now (payload .entry))) ⌝ }
     {
         let offset = self.offset;
-        let last = self.last;
         let body = payload.len();
         let when = LastTime::At(time);
         let fault = append_fault(self, false, 0, when, DATA_SIZE, body, buf.len());
@@ -230,7 +224,7 @@ impl Bookmark {
             return WriteAnswer::Refused(refuse(fault));
         }
         encode::write_data(buf, offset, time, payload);
-        WriteAnswer::Next(mark_after(offset + DATA_SIZE + body, last, when))
+        WriteAnswer::Next(mark_after(self, offset + DATA_SIZE + body, when))
     }
 
     // Appends a rename block.
@@ -242,7 +236,6 @@ impl Bookmark {
         ensures sized { λ _. ⌜ Sized (Rename time (now (old .entry)) (now (new .entry))) ⌝ }
     {
         let offset = self.offset;
-        let last = self.last;
         let body = old.len() + new.len();
         let when = LastTime::At(time);
         let asked = request::rename_fault(time, old, new);
@@ -251,7 +244,7 @@ impl Bookmark {
             return WriteAnswer::Refused(refuse(fault));
         }
         encode::write_rename(buf, offset, time, old, new);
-        WriteAnswer::Next(mark_after(offset + RENAME_SIZE + body, last, when))
+        WriteAnswer::Next(mark_after(self, offset + RENAME_SIZE + body, when))
     }
 
     // Appends a link table, which has no time, `links` being the bytes of its `count` links.
@@ -263,7 +256,6 @@ impl Bookmark {
         ensures sized { λ _. ⌜ Sized (Table count (now (links .entry))) ⌝ }
     {
         let offset = self.offset;
-        let last = self.last;
         let body = links.len();
         let when = LastTime::Never;
         let asked = request::table_fault(count, links);
@@ -272,7 +264,7 @@ impl Bookmark {
             return WriteAnswer::Refused(refuse(fault));
         }
         encode::write_table(buf, offset, count, links);
-        WriteAnswer::Next(mark_after(offset + TABLE_SIZE + body, last, when))
+        WriteAnswer::Next(mark_after(self, offset + TABLE_SIZE + body, when))
     }
 }
 

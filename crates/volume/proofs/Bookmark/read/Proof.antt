@@ -62,11 +62,11 @@ time-at : (volume : List ℕ) (offset : ℕ) (decoded : Decoded) (time : LastTim
 time-at volume offset decoded time e f = f ∙ ap (λ (d : Decoded). timeOfBlock (d .block)) e
 
 found-at : (volume : List ℕ) (mark next : Bookmark) (decoded : Decoded) (time : LastTime) → decoded ≡ decodedAt volume (mark .offset)
-    → asOption time ≡ timeOfBlock (decoded .block) → next ≡ markAfter (decoded .end) (mark .last) (asOption time)
+    → asOption time ≡ timeOfBlock (decoded .block) → next ≡ markAfter mark (decoded .end) (asOption time)
     → _≡_ {A = Found} (record { block = decoded .block; next = next }) (foundAt volume mark)
 found-at volume mark next decoded time e f g =
     ap₂ (λ (b : Block) (n : Bookmark). record { block = b; next = n }) (ap (λ (d : Decoded). d .block) e)
-    (g ∙ ap₂ (λ (x : ℕ) (t : Option ℕ). markAfter x (mark .last) t) (ap (λ (d : Decoded). d .end) e) (time-at volume (mark .offset) decoded time e f))
+    (g ∙ ap₂ (λ (x : ℕ) (t : Option ℕ). markAfter mark x t) (ap (λ (d : Decoded). d .end) e) (time-at volume (mark .offset) decoded time e f))
 
 returns-3 : tie.Need-returns-3
 returns-3 c =
