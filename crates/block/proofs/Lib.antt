@@ -1,4 +1,5 @@
 pub mod Faults
+pub mod Passed
 pub mod Places
 pub mod Ids
 pub mod Standing

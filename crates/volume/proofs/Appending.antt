@@ -7,10 +7,10 @@ use mathlib.Core.List.{List}
 use native.Mathlib.Omega.{arith}
 use lib.Dec.{eqb}
 use lib.ListN.{length}
-use borrow.Author.Tests.{ltb-false, eqb-true, eqb-false, not-false, le-ltb}
+use borrow.Author.Tests.{eqb-true, eqb-false, le-ltb}
 use Rattle.number.specs.Number.{put}
 use Rattle.checks.specs.Checks.{clear, miss}
-use Rattle.checks.proofs.Laws.{passed, passed-part, decided, none-append}
+use Rattle.checks.proofs.Laws.{decided, none-append}
 use Rattle.checks.proofs.Tests.{eq-neb}
 use Rattle.refusal.specs.Refusal.{refusalOf}
 use Rattle.refusal.specs.declared.Refusal.{Refusal}
@@ -21,11 +21,12 @@ use Rattle.volume.specs.Heading.{firstMark}
 use Rattle.volume.specs.Reading.{markAfter}
 use Rattle.request.specs.Requests.{Request, isTable, timeIn, imageIn, requestOrder}
 use Rattle.request.specs.Asking.{requestFor, Sized}
-use Rattle.volume.specs.Writing.{placeOrder, appendOrder, appendFault, appendAnswer, appendBuffer}
-use Rattle.volume.specs.Writing.{SizedHeader, writeOrder, writeFault, writeAnswer, writeBuffer}
+use Rattle.volume.specs.Writing.{placeOrder, appendFault, appendAnswer, appendBuffer}
+use Rattle.volume.specs.Writing.{SizedHeader, writeFault, writeAnswer, writeBuffer}
 use Rattle.volume.specs.declared.Bookmark.{Bookmark}
 use Rattle.volume.specs.declared.WriteAnswer.{WriteAnswer}
 use Rattle.volume.specs.declared.WriteAnswer.the-variants.{Next, Refused}
+use Rattle.volume.proofs.Passed.{append-passed, write-passed}
 use Rattle.volume.proofs.HeaderImage.{hash-rule, hash-right}
 use Rattle.volume.proofs.OneCall.{Allowed, after, follows, may-follow, right-place, place-right}
 use Rattle.request.proofs.Asked.{blockIn, Asked, request-sound, request-complete, Agree, asked-agree}
@@ -42,21 +43,20 @@ pub record Admitted (room : ℕ) (mark : Bookmark) (request : Request) (block : 
 
 module _ (room : ℕ) (mark : Bookmark) (request : Request) where
   pub append-sound : Sized request → appendFault room mark request ≡ 0 → Admitted room mark request (blockIn request)
-  unfolding appendFault
   append-sound s e =
-      let order = appendOrder room mark request in
-      let a : Asked request (blockIn request) = request-sound request s (passed-part 2 6 order tt e) in
+      let p = append-passed room mark request e in
+      let a : Asked request (blockIn request) = request-sound request s (p .own) in
       let same : Agree request (blockIn request) = asked-agree a in
       record {
         asks = a .asks;
         allowed = record {
-          place = right-place (mark .due) _ (passed 1 order tt e) ∙ same .same-place;
+          place = right-place (mark .due) _ (p .place) ∙ same .same-place;
           keeps = a .keeps;
-          time = rw (← same .same-time) (follows (mark .last) _ (not-false _ (passed 8 order tt e)));
+          time = rw (← same .same-time) (follows (mark .last) _ (p .time));
         };
-        base = ltb-false _ _ (passed 0 order tt e);
-        small = rw (← same .same-image) (ltb-false _ _ (passed 9 order tt e));
-        fits = rw (← same .same-image) (ltb-false _ _ (passed 10 order tt e));
+        base = p .base;
+        small = rw (← same .same-image) (p .small);
+        fits = rw (← same .same-image) (p .fits);
       }
 
   pub append-complete : (block : Block) → Admitted room mark request block → appendFault room mark request ≡ 0
@@ -119,18 +119,17 @@ header-sized header rules = record { fit = rules .fit; id-bytes = rules .id-byte
 
 module _ (room : ℕ) (header : Header) where
   pub write-sound : SizedHeader header → writeFault room header ≡ 0 → HeaderRules header × (80 ≤ room)
-  unfolding writeFault
   write-sound s e =
-      let order = writeOrder room header in (
+      let p = write-passed room header e in (
         record {
           fit = s .fit;
-          id-length = eqb-true _ _ (not-false _ (passed 0 order tt e));
+          id-length = p .id-length;
           id-bytes = s .id-bytes;
-          hash-length = eqb-true _ _ (not-false _ (passed 1 order tt e));
+          hash-length = p .hash-length;
           hash-bytes = s .hash-bytes;
-          first = hash-rule _ _ (passed 2 order tt e);
+          first = hash-rule _ _ (p .hash-right);
         },
-        ltb-false _ _ (passed 3 order tt e),
+        p .fits,
       )
 
   pub write-complete : HeaderRules header → 80 ≤ room → writeFault room header ≡ 0

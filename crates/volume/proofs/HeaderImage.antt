@@ -7,13 +7,13 @@ use mathlib.Core.List.{List, [], _∷_, _++_, append-assoc}
 use native.Mathlib.Omega.{arith}
 use lib.Dec.{eqb, eqb·suc-zero, lit<}
 use lib.ListN.{length, length-append}
-use borrow.Author.Tests.{ltb-false, eqb-true, eqb-false, not-false, le-ltb}
+use borrow.Author.Tests.{eqb-true, eqb-false, not-false, le-ltb}
 use Rattle.number.specs.Number.{Bytes, leBytes, part, numberAt}
 use Rattle.number.proofs.Digits.{length-leBytes, numberAt-lt}
 use Rattle.number.proofs.Parts.{length-part, bytes-part, part-add, part-at, drop-past, leBytes-numberAt, number-at}
 use Rattle.number.proofs.Same.{same-equal, same-refl}
 use Rattle.checks.specs.Checks.{clear, miss}
-use Rattle.checks.proofs.Laws.{passed, decided}
+use Rattle.checks.proofs.Laws.{decided}
 use Rattle.checks.proofs.Tests.{eq-neb}
 use Rattle.crc32.specs.Crc.{crc}
 use Rattle.refusal.specs.Refusal.{refusalOf}
@@ -21,11 +21,12 @@ use Rattle.format.specs.Layout.{sealed}
 use Rattle.format.specs.Headers.{Header, magic, headerFields, headerImage, noHash, HeaderRules}
 use Rattle.format.proofs.Seal.{length-sealed, seal-part, part-sealed}
 use Rattle.block.specs.Order.{volumeLimit, sumWrong}
-use Rattle.volume.specs.Heading.{idOf, sequenceOf, previousOf, hashWrong, headerOrder, headerFault}
+use Rattle.volume.specs.Heading.{idOf, sequenceOf, previousOf, hashWrong, headerFault}
 use Rattle.volume.specs.Heading.{firstMark, headerAnswer}
 use Rattle.volume.specs.declared.Header.{Header as Given}
 use Rattle.volume.specs.declared.HeaderAnswer.{HeaderAnswer}
 use Rattle.volume.specs.declared.HeaderAnswer.the-variants.{Accepted, Refused}
+use Rattle.volume.proofs.Passed.{HeaderPassed, header-passed}
 
 -- the header that the first 80 bytes show
 abbrev pub headerAt : (volume : List ℕ) → Header
@@ -39,10 +40,9 @@ hash-rule (suc n) previous e z = absurd (omega arith)
 
 -- a byte that is read as 0
 zero-byte : (volume : List ℕ) (offset : ℕ) → Bytes volume → offset + 1 ≤ length volume
-    → not (eqb (numberAt volume offset 1) 0) ≡ false → part volume offset 1 ≡ 0 ∷ []
+    → numberAt volume offset 1 ≡ 0 → part volume offset 1 ≡ 0 ∷ []
 unfolding leBytes
-zero-byte volume offset b h e =
-    sym (leBytes-numberAt volume offset 1 b h) ∙ ap (leBytes 1) (eqb-true (numberAt volume offset 1) 0 (not-false _ e))
+zero-byte volume offset b h e = sym (leBytes-numberAt volume offset 1 b h) ∙ ap (leBytes 1) e
 
 -- two parts in a row, each known
 join : (volume : List ℕ) (offset m n : ℕ) {a b : List ℕ} → part volume offset m ≡ a → part volume (offset + m) n ≡ b
@@ -57,40 +57,37 @@ pub record HeaderStands (volume : List ℕ) : Type 0 where
   pub image : part volume 0 80 ≡ headerImage (headerAt volume)
 
 module _ (volume : List ℕ) (b : Bytes volume) (e : headerFault volume ≡ 0) where
-  long : 80 ≤ length volume
-  unfolding headerFault
-  long = ltb-false _ _ (passed 1 (headerOrder volume) tt e)
+  p : HeaderPassed volume
+  p = header-passed volume e
 
   fields-stand : part volume 0 76 ≡ headerFields (headerAt volume)
-  unfolding headerFault headerFields
+  unfolding headerFields
   fields-stand =
-      let order = headerOrder volume in
-      let whole = long in
-      join volume 0 17 59 (same-equal _ _ (not-false _ (passed 2 order tt e)))
-      (join volume 17 1 58 (zero-byte volume 17 b (omega arith) (passed 3 order tt e))
+      let whole = p .whole in
+      join volume 0 17 59 (same-equal _ _ (p .magic-right))
+      (join volume 17 1 58 (zero-byte volume 17 b (omega arith) (p .version))
       (join volume 18 16 42 refl
-      (join volume 34 1 41 (zero-byte volume 34 b (omega arith) (passed 4 order tt e))
-      (join volume 35 1 40 (zero-byte volume 35 b (omega arith) (passed 5 order tt e))
+      (join volume 34 1 41 (zero-byte volume 34 b (omega arith) (p .crc-algorithm))
+      (join volume 35 1 40 (zero-byte volume 35 b (omega arith) (p .hash-algorithm))
       (join volume 36 8 32 (sym (leBytes-numberAt volume 36 8 b (omega arith))) refl)))))
 
   pub header-sound : HeaderStands volume
-  unfolding headerFault headerImage sumWrong
+  unfolding headerImage sumWrong
   header-sound =
-      let order = headerOrder volume in
-      let whole = long in
-      let sum : numberAt volume 76 4 ≡ crc (part volume 0 76) = eqb-true _ _ (not-false _ (passed 6 order tt e)) in
+      let whole = p .whole in
+      let sum : numberAt volume 76 4 ≡ crc (part volume 0 76) = eqb-true _ _ (not-false _ (p .sum-right)) in
       record {
-        small = ltb-false _ _ (passed 0 order tt e);
-        whole = long;
+        small = p .small;
+        whole = whole;
         rules = record {
           fit = numberAt-lt volume 36 8 b;
           id-length = length-part volume 18 16 (omega arith);
           id-bytes = bytes-part volume 18 16 b;
           hash-length = length-part volume 44 32 (omega arith);
           hash-bytes = bytes-part volume 44 32 b;
-          first = hash-rule _ _ (passed 7 order tt e);
+          first = hash-rule _ _ (p .hash-right);
         };
-        image = sym (seal-part volume 0 76 b long sum) ∙ ap sealed fields-stand;
+        image = sym (seal-part volume 0 76 b whole sum) ∙ ap sealed fields-stand;
       }
 
 -- From the image to the checks.

@@ -1,3 +1,4 @@
+pub mod Passed
 pub mod Whole
 pub mod Steps
 pub mod HeaderImage

@@ -8,12 +8,12 @@ use mathlib.Core.List.{List, _++_}
 use native.Mathlib.Omega.{arith}
 use lib.Dec.{leb, eqb}
 use lib.ListN.{length, drop, length-append, length-drop}
-use borrow.Author.Tests.{ltb-true, ltb-false, leb-true, eqb-true, not-true, not-false}
+use borrow.Author.Tests.{ltb-true, leb-true, eqb-true, not-true}
 use borrow.Author.Tests.{lt-ltb, le-ltb, le-leb, lt-leb, eq-eqb, ne-eqb}
 use Rattle.number.specs.Number.{Bytes}
 use Rattle.number.proofs.Parts.{drop-part}
 use Rattle.checks.specs.Checks.{firstFault, clear, miss}
-use Rattle.checks.proofs.Laws.{passed, passed-part, decided, rest, none-append}
+use Rattle.checks.proofs.Laws.{decided, rest, none-append}
 use Rattle.format.specs.Blocks.{Kind, idOf, Block, kindOf, image, BlockRules}
 use Rattle.format.specs.Readings.{timeOf, TimeFollows}
 use Rattle.block.specs.Fields.{idAt, kindWith, kindAt, bodyEnd}
@@ -21,13 +21,14 @@ use Rattle.block.specs.Order.{volumeLimit, unknownId, wrongPlace, kindOrder}
 use Rattle.block.specs.Shown.{blockAt, shown, timeOfBlock}
 use Rattle.block.proofs.Ids.{kind-known, id-known, isTable}
 use Rattle.block.proofs.BlockImage.{Stands, block-sound, Reads, block-complete, length-image, same-time}
-use Rattle.volume.specs.Reading.{isEnd, asOption, mayFollow, markAfter, readOrder, readFault, nextMark, readAnswer}
+use Rattle.volume.specs.Reading.{isEnd, asOption, mayFollow, markAfter, readFault, nextMark, readAnswer}
 use Rattle.volume.specs.declared.LastTime.{LastTime}
 use Rattle.volume.specs.declared.LastTime.the-variants.{Never, At}
 use Rattle.volume.specs.declared.Bookmark.{Bookmark}
 use Rattle.volume.specs.declared.Found.{Found}
 use Rattle.volume.specs.declared.ReadAnswer.{ReadAnswer}
 use Rattle.volume.specs.declared.ReadAnswer.the-variants.{Found as Handed, End}
+use Rattle.volume.proofs.Passed.{read-passed}
 use Rattle.volume.proofs.Steps.{foundAt, Answers, ends, finds, refuses, answers}
 
 -- The rules at a bookmark, and the tests for them.
@@ -77,23 +78,22 @@ pub record HandedOut (volume : List ℕ) (mark : Bookmark) (found : Found) : Typ
 
 sound-here : (volume : List ℕ) (mark : Bookmark) → Bytes volume → readFault volume mark ≡ 0
     → HandedOut volume mark (foundAt volume mark)
-unfolding readFault
 sound-here volume mark b e =
     let offset : ℕ = mark .offset in
     let kind : Kind = kindAt volume offset in
     let block : Block = shown volume (blockAt volume offset) in
-    let order = readOrder volume mark in
-    let id : idAt volume offset ≡ idOf kind = sym (id-known (idAt volume offset) (passed 3 order tt e)) in
-    let s : Stands kind volume offset block = block-sound kind volume offset b id (passed-part 5 8 order tt e) in
+    let p = read-passed volume mark e in
+    let id : idAt volume offset ≡ idOf kind = sym (id-known (idAt volume offset) (p .block .known)) in
+    let s : Stands kind volume offset block = block-sound kind volume offset b id (p .block .own) in
     let t : timeOfBlock (blockAt volume offset) ≡ timeOf block = same-time volume (blockAt volume offset) in
     let table : eqb (idAt volume offset) 8 ≡ isTable block = ap (λ (n : ℕ). eqb n 8) (id ∙ ap idOf (sym (s .same-kind))) in
     record {
-      small = ltb-false _ _ (passed 0 order tt e);
-      base = ltb-false _ _ (passed 1 order tt e);
+      small = p .block .small;
+      base = p .block .base;
       allowed = record {
-        place = right-place (mark .due) _ (passed 4 order tt e) ∙ table;
+        place = right-place (mark .due) _ (p .block .place) ∙ table;
         keeps = s .keeps;
-        time = rw (← t) (follows (mark .last) _ (not-false _ (passed 13 order tt e)));
+        time = rw (← t) (follows (mark .last) _ (p .time));
       };
       next = ap₂ (λ end time. markAfter mark end time) (s .end) t;
       same = drop-part volume offset (length (image block)) ∙ ap₂ _++_ (s .same) (ap (λ (n : ℕ). drop n volume) (sym (s .end)));

@@ -4,18 +4,18 @@ use mathlib.Core.Bool.{Bool, not, cond}
 use mathlib.Core.List.{List}
 use Prim.Native.Nat.{ℕ, _≤_}
 use lib.ListN.{length}
-use borrow.Author.Tests.{ltb-false, eq-eqb, ne-eqb}
+use borrow.Author.Tests.{eq-eqb, ne-eqb}
 use Rattle.checks.specs.Checks.{firstFault}
-use Rattle.checks.proofs.Laws.{passed, firstFault-append}
+use Rattle.checks.proofs.Laws.{firstFault-append}
 use Rattle.block.specs.Order.{blockOrder}
 use Rattle.block.specs.Shown.{blockAt, timeOfBlock}
-use Rattle.volume.specs.Heading.{headerOrder, headerFault}
+use Rattle.volume.specs.Heading.{headerFault}
 use Rattle.volume.specs.Reading.{mayFollow, readFault}
 use Rattle.volume.specs.declared.Bookmark.{Bookmark}
+use Rattle.volume.proofs.Passed.{header-passed}
 
 pub header-length : (volume : List ℕ) → headerFault volume ≡ 0 → 80 ≤ length volume
-unfolding headerFault
-header-length volume e = ltb-false _ _ (passed 1 (headerOrder volume) tt e)
+header-length volume e = header-passed volume e .whole
 
 -- the block's own checks come before the time
 module _ (volume : List ℕ) (mark : Bookmark) (fault : ℕ) (told : fault ≡ firstFault (blockOrder volume (mark .offset) (mark .due))) where

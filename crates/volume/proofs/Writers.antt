@@ -8,10 +8,10 @@ use mathlib.Mathlib.Data.Bool.Basic.{or-eq-false-eq-eq-false-and-eq-false as bot
 use native.Mathlib.Omega.{arith}
 use lib.Dec.{T, ltb, eqb}
 use lib.ListN.{length}
-use borrow.Author.Tests.{ltb-false, eqb-true, not-false, eq-eqb, ne-eqb}
+use borrow.Author.Tests.{ltb-false, eq-eqb, ne-eqb}
 use Rattle.number.specs.Number.{put}
 use Rattle.checks.specs.Checks.{Check, check, firstFault}
-use Rattle.checks.proofs.Laws.{numbered, passed, firstFault-append}
+use Rattle.checks.proofs.Laws.{numbered, firstFault-append}
 use Rattle.refusal.specs.Refusal.{refusalOf}
 use Rattle.refusal.specs.declared.Refusal.{Refusal}
 use Rattle.format.specs.Blocks.{inodeBlock, linkBlock, unlinkBlock, xattrBlock, removedXattrBlock, dataBlock, renameBlock, linkTable}
@@ -23,10 +23,11 @@ use Rattle.request.specs.Requests.{kindIn, isTable, bodyIn, timeIn, imageIn, ov
 use Rattle.request.specs.Asking.{Sized}
 use Rattle.volume.specs.Heading.{firstMark}
 use Rattle.volume.specs.Reading.{markAfter}
-use Rattle.volume.specs.Writing.{placeOrder, askedOrder, appendOrder, appendFault, appendAnswer, appendBuffer}
-use Rattle.volume.specs.Writing.{SizedHeader, writeOrder, writeFault, writeAnswer, writeBuffer}
+use Rattle.volume.specs.Writing.{placeOrder, askedOrder, appendFault, appendAnswer, appendBuffer}
+use Rattle.volume.specs.Writing.{SizedHeader, writeFault, writeAnswer, writeBuffer}
 use Rattle.volume.specs.declared.Bookmark.{Bookmark}
 use Rattle.volume.specs.declared.WriteAnswer.the-variants.{Next, Refused}
+use Rattle.volume.proofs.Passed.{append-passed, write-passed}
 
 -- How long an image is, also where a length does not fit its field.
 
@@ -79,15 +80,10 @@ module _ (buffer : List ℕ) (mark : Bookmark) (request : Request) where
 module _ {buffer : List ℕ} {mark : Bookmark} {request : Request} {body fault : ℕ} (t : Told buffer mark request body fault) where
   -- where there is none, the image fits the buffer and no length is over its limit
   pub room-left : fault ≡ 0 → mark .offset + (sizeOf (kindIn request) + body) ≤ length buffer
-  unfolding appendFault
-  room-left z =
-      let h : mark .offset + length (imageIn request) ≤ length buffer
-      = ltb-false _ _ (passed 10 (appendOrder (length buffer) mark request) tt (sym (t .fault-is) ∙ z)) in
-      omega (arith, length-imageIn request, t .long)
+  room-left z = omega (arith, length-imageIn request, t .long, append-passed (length buffer) mark request (sym (t .fault-is) ∙ z) .fits)
 
   pub not-over : fault ≡ 0 → overLimit request ≡ false
-  unfolding appendFault
-  not-over z = passed 2 (appendOrder (length buffer) mark request) tt (sym (t .fault-is) ∙ z)
+  not-over z = append-passed (length buffer) mark request (sym (t .fault-is) ∙ z) .not-over
 
   -- a refusal leaves the buffer as it was
   pub refused : {refusal : Refusal} → refusal ≡ refusalOf fault → (fault ≡ 0 → ⊥)
@@ -131,10 +127,4 @@ module _ (buffer : List ℕ) (header : Header) {fault : ℕ} (own : (fault ≡ w
 
   -- the lengths are right, and there is room
   pub header-fits : fault ≡ 0 → (length (header .id) ≡ 16) × ((length (header .previous) ≡ 32) × (80 ≤ length buffer))
-  unfolding writeFault
-  header-fits z =
-      let order = writeOrder (length buffer) header in
-      let clear = sym (own .0) ∙ z in (
-        eqb-true _ _ (not-false _ (passed 0 order tt clear)),
-        (eqb-true _ _ (not-false _ (passed 1 order tt clear)), ltb-false _ _ (passed 3 order tt clear)),
-      )
+  header-fits z = let p = write-passed (length buffer) header (sym (own .0) ∙ z) in (p .id-length, (p .hash-length, p .fits))

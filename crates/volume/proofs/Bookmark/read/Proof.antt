@@ -15,7 +15,7 @@ use Rattle.volume.specs.declared.ReadAnswer.the-variants.{Found as Answe
 use native.Mathlib.Nat.{suc-ne-zero}
 use borrow.Author.Tests.{not-true, not-false}
 use Rattle.volume.proofs.Whole.{block-decides, time-decides}
-use Rattle.block.proofs.Faults.{kind-clear}
+use Rattle.block.proofs.Passed.{block-passed}
 use Rattle.volume.proofs.Steps.{foundAt, end-read, refusal-read, found-read}
 use borrow.Author.Needs.{needs}
 use Rattle.volume.proofs.Bookmark.read.Statement.{statement}
@@ -45,7 +45,7 @@ returns-2 c =
 decode-requires : tie.Need-decode-requires
 decode-requires c κs =
     let a = c .before .before .before .before .before .args in
-    kind-clear (a .volume .now) (a .self .offset) (a .self .due) (sym (c .before .block-fault .ensures) ∙ c .if2 .left)
+    block-passed (a .volume .now) (a .self .offset) (a .self .due) (sym (c .before .block-fault .ensures) ∙ c .if2 .left) .own
 
 time-of-requires : tie.Need-time-of-requires
 time-of-requires c κs = search needs

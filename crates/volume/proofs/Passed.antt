@@ -1,0 +1,110 @@
+-- What a header, a reading, an append and the writing of a header without a fault have passed, by name. Only here are the checks of
+-- their tables counted. Assumes nothing.
+use Prim.Native.Nat.{ℕ, _+_, _≤_}
+use mathlib.Core.Path.{_≡_}
+use mathlib.Core.Bool.{true, false, not, Bool·beq}
+use mathlib.Core.List.{List}
+use lib.ListN.{length}
+use borrow.Author.Tests.{ltb-false, eqb-true, not-false}
+use Rattle.number.specs.Number.{numberAt, part}
+use Rattle.number.specs.Same.{sameBytes}
+use Rattle.checks.specs.Checks.{firstFault}
+use Rattle.checks.proofs.Laws.{passed, passed-part}
+use Rattle.format.specs.Headers.{Header, magic}
+use Rattle.block.specs.Order.{volumeLimit, sumWrong}
+use Rattle.block.specs.Shown.{blockAt, timeOfBlock}
+use Rattle.block.proofs.Passed.{BlockPassed, block-passed}
+use Rattle.request.specs.Requests.{Request, isTable, timeIn, imageIn, overLimit, requestOrder}
+use Rattle.volume.specs.Heading.{sequenceOf, previousOf, hashWrong, headerOrder, headerFault}
+use Rattle.volume.specs.Reading.{mayFollow, readOrder, readFault}
+use Rattle.volume.specs.Writing.{appendOrder, appendFault, writeOrder, writeFault}
+use Rattle.volume.specs.declared.Bookmark.{Bookmark}
+
+pub record HeaderPassed (volume : List ℕ) : Type 0 where
+  -- 1, 2, 3
+  pub small : length volume ≤ volumeLimit
+  pub whole : 80 ≤ length volume
+  pub magic-right : sameBytes (part volume 0 17) magic ≡ true
+  -- 4, three times
+  pub version : numberAt volume 17 1 ≡ 0
+  pub crc-algorithm : numberAt volume 34 1 ≡ 0
+  pub hash-algorithm : numberAt volume 35 1 ≡ 0
+  -- 5, 6
+  pub sum-right : sumWrong volume 0 76 ≡ false
+  pub hash-right : hashWrong (sequenceOf volume) (previousOf volume) ≡ false
+
+pub header-passed : (volume : List ℕ) → headerFault volume ≡ 0 → HeaderPassed volume
+unfolding headerFault
+header-passed volume e =
+    let order = headerOrder volume in
+    record {
+      small = ltb-false _ _ (passed 0 order tt e);
+      whole = ltb-false _ _ (passed 1 order tt e);
+      magic-right = not-false _ (passed 2 order tt e);
+      version = eqb-true _ _ (not-false _ (passed 3 order tt e));
+      crc-algorithm = eqb-true _ _ (not-false _ (passed 4 order tt e));
+      hash-algorithm = eqb-true _ _ (not-false _ (passed 5 order tt e));
+      sum-right = passed 6 order tt e;
+      hash-right = passed 7 order tt e;
+    }
+
+pub record ReadPassed (volume : List ℕ) (mark : Bookmark) : Type 0 where
+  -- the block's own checks
+  pub block : BlockPassed volume (mark .offset) (mark .due)
+  -- 14
+  pub time : mayFollow (mark .last) (timeOfBlock (blockAt volume (mark .offset))) ≡ true
+
+pub read-passed : (volume : List ℕ) (mark : Bookmark) → readFault volume mark ≡ 0 → ReadPassed volume mark
+unfolding readFault
+read-passed volume mark e =
+    let order = readOrder volume mark in
+    record {
+      block = block-passed volume (mark .offset) (mark .due) (passed-part 0 13 order tt e);
+      time = not-false _ (passed 13 order tt e);
+    }
+
+pub record AppendPassed (room : ℕ) (mark : Bookmark) (request : Request) : Type 0 where
+  -- 8, twice
+  pub base : 80 ≤ mark .offset
+  pub place : not (Bool·beq (mark .due) (isTable request)) ≡ false
+  -- the request's own checks, and the first of them, 9
+  pub own : firstFault (requestOrder request) ≡ 0
+  pub not-over : overLimit request ≡ false
+  -- 14, 1, 17
+  pub time : mayFollow (mark .last) (timeIn request) ≡ true
+  pub small : mark .offset + length (imageIn request) ≤ volumeLimit
+  pub fits : mark .offset + length (imageIn request) ≤ room
+
+pub append-passed : (room : ℕ) (mark : Bookmark) (request : Request) → appendFault room mark request ≡ 0
+    → AppendPassed room mark request
+unfolding appendFault
+append-passed room mark request e =
+    let order = appendOrder room mark request in
+    record {
+      base = ltb-false _ _ (passed 0 order tt e);
+      place = passed 1 order tt e;
+      own = passed-part 2 6 order tt e;
+      not-over = passed 2 order tt e;
+      time = not-false _ (passed 8 order tt e);
+      small = ltb-false _ _ (passed 9 order tt e);
+      fits = ltb-false _ _ (passed 10 order tt e);
+    }
+
+pub record WritePassed (room : ℕ) (header : Header) : Type 0 where
+  -- 11, twice
+  pub id-length : length (header .id) ≡ 16
+  pub hash-length : length (header .previous) ≡ 32
+  -- 6, 17
+  pub hash-right : hashWrong (header .sequence) (header .previous) ≡ false
+  pub fits : 80 ≤ room
+
+pub write-passed : (room : ℕ) (header : Header) → writeFault room header ≡ 0 → WritePassed room header
+unfolding writeFault
+write-passed room header e =
+    let order = writeOrder room header in
+    record {
+      id-length = eqb-true _ _ (not-false _ (passed 0 order tt e));
+      hash-length = eqb-true _ _ (not-false _ (passed 1 order tt e));
+      hash-right = passed 2 order tt e;
+      fits = ltb-false _ _ (passed 3 order tt e);
+    }
