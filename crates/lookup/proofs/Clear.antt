@@ -8,7 +8,7 @@ use mathlib.Core.List.{List}
 use native.Mathlib.Omega.{arith}
 use lib.Dec.{leb, eqb}
 use lib.ListN.{length, length-take}
-use borrow.Author.Tests.{lt-ltb, ltb-false, leb-false, not-false}
+use borrow.Author.Tests.{lt-ltb, ltb-false, leb-false, eqb-true, not-false}
 use Rattle.checks.specs.Checks.{firstFault}
 use Rattle.checks.proofs.Laws.{passed, passed-part}
 use Rattle.checks.proofs.Scan.{any-false}
@@ -18,25 +18,32 @@ use Rattle.format.specs.Blocks.{Kind, inodeBlock, linkBlock, unlinkBlock, xattr
 use Rattle.extent.specs.Extents.{extentAt, extentCount, someBroken, someOverlap}
 use Rattle.block.specs.Fields.{kindAt, typeAt, restAt, bodyLength, bodyEnd}
 use Rattle.block.specs.Order.{overCount, ruleBroken, rangesOverlap, kindOrder, blockOrder}
-use Rattle.block.proofs.Faults.{kind-clear}
+use Rattle.block.proofs.Passed.{BlockPassed, block-passed}
 use Rattle.block.proofs.Places.{block-within}
-use Rattle.lookup.specs.Lookup.{entryCount, lengthOf, lengthsWrong, isFile, notFile, isAbsent, someAbsent, lookupOrder, lookupFault}
+use Rattle.lookup.specs.Lookup.{entryCount, lengthOf, lengthsWrong, isFile, notFile, isAbsent, someAbsent, openOrder, lookupOrder, lookupFault}
 
 -- a sound block that is the inode of a regular file
 pub record RegularFile (volume : List ℕ) (offset : ℕ) : Type 0 where
+  pub block : BlockPassed volume offset false
   pub kind : kindAt volume offset ≡ inodeBlock
   pub type : typeAt volume offset ≡ regular
+  pub own : firstFault (kindOrder inodeBlock volume offset) ≡ 0
   -- it ends, with its CRC, within the volume
   pub whole : bodyEnd inodeBlock volume offset + 4 ≤ length volume
-  -- its extents keep the rules of one extent, no position is kept twice, and there are at most 1,024
+  -- its n bytes are whole extents; they keep the rules of one extent, no position is kept twice, and there are at most 1,024
+  pub entire : bodyLength inodeBlock volume offset % 57 ≡ 0
   pub sound : someBroken (restAt volume offset) ≡ false
   pub apart : someOverlap (restAt volume offset) ≡ false
   pub few : length (restAt volume offset) ≤ 58368
 
--- what a lookup without a fault knows
-pub record Clear (volume : List ℕ) (offset : ℕ) (lengths : List ℕ) : Type 0 where
+-- what a lookup knows that has opened the file
+pub record Opened (volume : List ℕ) (offset : ℕ) (lengths : List ℕ) : Type 0 where
   pub lengths-right : lengthsWrong lengths ≡ false
   pub file : RegularFile volume offset
+
+-- what a lookup without a fault knows
+pub record Clear (volume : List ℕ) (offset : ℕ) (lengths : List ℕ) : Type 0 where
+  pub opening : Opened volume offset lengths
   pub none-absent : someAbsent lengths (restAt volume offset) ≡ false
 
 is-file : (kind : Kind) (type : FileType) → isFile kind type ≡ true → (kind ≡ inodeBlock) × (type ≡ regular)
@@ -52,34 +59,46 @@ is-file renameBlock type e = absurd (false≢true e)
 is-file linkTable type e = absurd (false≢true e)
 
 -- the checks of the block and of its kind and file type tell all of that
-pub regular-file : (volume : List ℕ) (offset : ℕ) → firstFault (blockOrder volume offset false) ≡ 0 → notFile volume offset ≡ false
+regular-file : (volume : List ℕ) (offset : ℕ) → firstFault (blockOrder volume offset false) ≡ 0 → notFile volume offset ≡ false
     → RegularFile volume offset
 unfolding notFile overCount ruleBroken rangesOverlap
 regular-file volume offset e n =
     let f = is-file (kindAt volume offset) (typeAt volume offset) (not-false _ n) in
-    let clear : firstFault (kindOrder (kindAt volume offset) volume offset) ≡ 0 = kind-clear volume offset false e in
-    let c : firstFault (kindOrder inodeBlock volume offset) ≡ 0 = rw (f .0) at clear in
+    let p = block-passed volume offset false e in
+    let c : firstFault (kindOrder inodeBlock volume offset) ≡ 0 = rw (f .0) at (p .own) in
+    let rule = both-false (not (eqb (bodyLength inodeBlock volume offset % 57) 0)) _ .0 (rw (f .1) at (passed 5 (kindOrder inodeBlock volume offset) tt c)) in
     let n : bodyLength inodeBlock volume offset ≤ 58368
     = ltb-false _ _ (rw (f .1) at (passed 1 (kindOrder inodeBlock volume offset) tt c)) in
     record {
+      block = p;
       kind = f .0;
       type = f .1;
-      whole = block-within inodeBlock volume offset (f .0) clear;
-      sound = both-false (not (eqb (bodyLength inodeBlock volume offset % 57) 0)) _ .0 (rw (f .1) at (passed 5 (kindOrder inodeBlock volume offset) tt c)) .1;
+      own = c;
+      whole = block-within inodeBlock volume offset (f .0) (p .own);
+      entire = eqb-true _ _ (not-false _ (rule .0));
+      sound = rule .1;
       apart = rw (f .1) at (passed 6 (kindOrder inodeBlock volume offset) tt c);
       few = simp length-take (omega arith);
+    }
+
+-- Only here and above are the checks of the opening, of a lookup and of an inode counted.
+pub opened : (volume : List ℕ) (offset : ℕ) (lengths : List ℕ) → firstFault (openOrder volume offset lengths) ≡ 0
+    → Opened volume offset lengths
+opened volume offset lengths e =
+    let order = openOrder volume offset lengths in
+    record {
+      lengths-right = passed 0 order tt e;
+      file = regular-file volume offset (passed-part 1 13 order tt e) (passed 14 order tt e);
     }
 
 pub a-lookup-without-a-fault-is-clear : (volume : List ℕ) (offset : ℕ) (lengths : List ℕ) → lookupFault volume offset lengths ≡ 0
     → Clear volume offset lengths
 unfolding lookupFault
 a-lookup-without-a-fault-is-clear volume offset lengths e =
+    let order = lookupOrder volume offset lengths in
     record {
-      lengths-right = passed 0 (lookupOrder volume offset lengths) tt e;
-      file =
-          regular-file volume offset (passed-part 1 13 (lookupOrder volume offset lengths) tt e)
-          (passed 14 (lookupOrder volume offset lengths) tt e);
-      none-absent = passed 15 (lookupOrder volume offset lengths) tt e;
+      opening = opened volume offset lengths (passed-part 0 15 order tt e);
+      none-absent = passed 15 order tt e;
     }
 
 -- no extent of a list is absent

@@ -1,4 +1,4 @@
--- The checks of a lookup, answered by parts: the lengths, then the block, then the file. Assumes nothing.
+-- The checks of a lookup, answered by parts: the lengths, the block and its kind, and then the file's extents. Assumes nothing.
 use Prim.Native.Nat.{ℕ}
 use mathlib.Core.Path.{_≡_}
 use mathlib.Core.Bool.{false}
@@ -7,24 +7,28 @@ use Rattle.checks.specs.Checks.{Check, check, miss, firstFault}
 use Rattle.checks.proofs.Laws.{decided, rest, stopped, continued}
 use Rattle.block.specs.Fields.{restAt}
 use Rattle.block.specs.Order.{blockOrder}
-use Rattle.lookup.specs.Lookup.{lengthsWrong, notFile, someAbsent, someStray, lookupFault}
+use Rattle.lookup.specs.Lookup.{lengthsWrong, notFile, openOrder, extentsOrder, lookupFault}
 
--- the checks after those of the block: 15, 16, 18
-abbrev pub fileOrder : (volume : List ℕ) (offset : ℕ) (lengths : List ℕ) → List Check
-fileOrder volume offset lengths =
-    check (notFile volume offset) 15
-    ∷ check (someAbsent lengths (restAt volume offset)) 16
-    ∷ check (someStray (restAt volume offset)) 18
-    ∷ []
+module _ (volume : List ℕ) (offset : ℕ) (lengths : List ℕ) where
+  -- 15, after the block's own checks
+  abbrev fileOrder : List Check
+  fileOrder = check (notFile volume offset) 15 ∷ []
 
-module _ (volume : List ℕ) (offset : ℕ) (lengths : List ℕ) (right : lengthsWrong lengths ≡ false)
-    {fault : ℕ} (told : fault ≡ firstFault (blockOrder volume offset false)) where
-  pub block-decides : (fault ≡ 0 → ⊥) → fault ≡ lookupFault volume offset lengths
-  unfolding lookupFault
-  block-decides n = decided (miss right (rest (stopped (blockOrder volume offset false) (fileOrder volume offset lengths) tt told n)))
+  -- the block decides where the lengths are right, and its kind where the block has no fault
+  module _ (right : lengthsWrong lengths ≡ false) {fault : ℕ} (told : fault ≡ firstFault (blockOrder volume offset false)) where
+    pub block-decides : (fault ≡ 0 → ⊥) → fault ≡ firstFault (openOrder volume offset lengths)
+    block-decides n = decided (miss right (rest (stopped (blockOrder volume offset false) fileOrder tt told n)))
 
-  pub file-decides : {answer : ℕ} → fault ≡ 0 → answer ≡ firstFault (fileOrder volume offset lengths)
-      → answer ≡ lookupFault volume offset lengths
-  unfolding lookupFault
-  file-decides z e =
-      decided (miss right (rest (continued (blockOrder volume offset false) (fileOrder volume offset lengths) tt told z e)))
+    pub kind-decides : {answer : ℕ} → fault ≡ 0 → answer ≡ firstFault fileOrder → answer ≡ firstFault (openOrder volume offset lengths)
+    kind-decides z e = decided (miss right (rest (continued (blockOrder volume offset false) fileOrder tt told z e)))
+
+  -- the opening decides, and where it has no fault the extents do
+  module _ {fault : ℕ} (told : fault ≡ firstFault (openOrder volume offset lengths)) where
+    pub opening-decides : (fault ≡ 0 → ⊥) → fault ≡ lookupFault volume offset lengths
+    unfolding lookupFault
+    opening-decides n = stopped (openOrder volume offset lengths) (extentsOrder lengths (restAt volume offset)) tt told n
+
+    pub extents-decide : {answer : ℕ} → fault ≡ 0 → answer ≡ firstFault (extentsOrder lengths (restAt volume offset))
+        → answer ≡ lookupFault volume offset lengths
+    unfolding lookupFault
+    extents-decide z e = continued (openOrder volume offset lengths) (extentsOrder lengths (restAt volume offset)) tt told z e

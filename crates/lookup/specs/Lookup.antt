@@ -70,15 +70,18 @@ isStray e = ltb 0 (keptLength e) && eqb (e .size) 0
 unfoldable pub someStray : (list : List ℕ) → Bool
 someStray list = anyBelow (λ i. isStray (extentAt list i)) (extentCount list)
 
--- the checks of a lookup: 9, the block's own with nothing due and no last time, 15, 16, 18
+-- the checks with which a lookup opens the file: 9, the block's own with nothing due and no last time, 15
+abbrev pub openOrder : (volume : List ℕ) (offset : ℕ) (lengths : List ℕ) → List Check
+openOrder volume offset lengths =
+    check (lengthsWrong lengths) 9 ∷ (blockOrder volume offset false ++ (check (notFile volume offset) 15 ∷ []))
+
+-- the checks of its extents: 16, 18
+abbrev pub extentsOrder : (lengths list : List ℕ) → List Check
+extentsOrder lengths list = check (someAbsent lengths list) 16 ∷ check (someStray list) 18 ∷ []
+
+-- the checks of a lookup
 abbrev pub lookupOrder : (volume : List ℕ) (offset : ℕ) (lengths : List ℕ) → List Check
-lookupOrder volume offset lengths =
-    check (lengthsWrong lengths) 9
-    ∷ (blockOrder volume offset false
-    ++ (check (notFile volume offset) 15
-    ∷ check (someAbsent lengths (restAt volume offset)) 16
-    ∷ check (someStray (restAt volume offset)) 18
-    ∷ []))
+lookupOrder volume offset lengths = openOrder volume offset lengths ++ extentsOrder lengths (restAt volume offset)
 
 unfoldable pub lookupFault : (volume : List ℕ) (offset : ℕ) (lengths : List ℕ) → ℕ
 lookupFault volume offset lengths = firstFault (lookupOrder volume offset lengths)

@@ -9,9 +9,10 @@ use refusal::STRAY;
 ghost use mathlib.Core.Path.{_≡_};
 ghost use Prim.Native.Nat.{_+_, _≤_, _<_};
 ghost use lib.ListN.{length};
+ghost use Rattle.checks.specs.Checks.{firstFault};
 ghost use Rattle.format.specs.Blocks.{inodeBlock};
 ghost use Rattle.block.specs.Fields.{bodyEnd, restAt};
-ghost use Rattle.lookup.specs.Lookup.{lengthsWrong, notFile, lookupFault};
+ghost use Rattle.lookup.specs.Lookup.{lengthsWrong, notFile, openOrder, lookupFault};
 
 // The most lengths that may be lent.
 const MAX_ENTRIES: usize = 4096;
@@ -53,9 +54,10 @@ pub(crate) fn list_of(volume: &[u8], offset: usize) -> &[u8]
     &volume[from..from + n]
 }
 
-// The first fault of a lookup in the inode block at `offset`, or 0.
-pub(crate) fn lookup_fault(volume: &[u8], offset: usize, lengths: &[u8]) -> u64
-    ensures { λ r. ⌜ r ≡ lookupFault (now (volume .entry)) offset (now (lengths .entry)) ⌝ }
+// The first fault that a lookup meets as it opens the file at `offset`, or 0: that of the lengths, of the block, or that the
+// block is no regular file's inode.
+fn open_fault(volume: &[u8], offset: usize, lengths: &[u8]) -> u64
+    ensures { λ r. ⌜ r ≡ firstFault (openOrder (now (volume .entry)) offset (now (lengths .entry))) ⌝ }
 {
     if lengths_wrong(lengths) {
         return OVER_LIMIT;
@@ -66,6 +68,17 @@ pub(crate) fn lookup_fault(volume: &[u8], offset: usize, lengths: &[u8]) -> u64
     }
     if not_file(volume, offset) {
         return NOT_REGULAR_FILE;
+    }
+    0
+}
+
+// The first fault of a lookup in the inode block at `offset`, or 0.
+pub(crate) fn lookup_fault(volume: &[u8], offset: usize, lengths: &[u8]) -> u64
+    ensures { λ r. ⌜ r ≡ lookupFault (now (volume .entry)) offset (now (lengths .entry)) ⌝ }
+{
+    let fault = open_fault(volume, offset, lengths);
+    if fault != 0 {
+        return fault;
     }
     let list = list_of(volume, offset);
     if some_absent(lengths, list) {

@@ -11,7 +11,7 @@ use Rattle.lookup.proofs.query.runs.Statement.{statement}
 use Rattle.lookup.proofs.query.runs.Tie as tie
 
 file : (c : tie.Else1) → let a = c .before .before .before .before .before .args in RegularFile (now (a .volume)) (a .offset)
-file c = a-lookup-without-a-fault-is-clear _ _ _ (sym (c .before .lookup-fault .ensures) ∙ c .if1 .left) .file
+file c = a-lookup-without-a-fault-is-clear _ _ _ (sym (c .before .lookup-fault .ensures) ∙ c .if1 .left) .opening .file
 
 -- what is answered for the runs that were counted, and what the lent list then holds
 answered : (c : tie.After-range) → let a = c .before .before .before .before .before .before .before .before .before .args in
