@@ -22,7 +22,7 @@ use Rattle.volume.specs.Heading.{sequenceOf, headerFault}
 use Rattle.volume.proofs.HeaderImage.{headerAt, HeaderStands, header-sound, HeaderShown, header-complete}
 use Rattle.lookup.specs.Lookup.{lookupFault, positionAnswer, runsAnswer, runsRoom}
 use Rattle.lookup.specs.Fetch.{chosen, outOf, fetchPart, fetchAddress}
-use Rattle.lookup.proofs.Fetch.{range-decides, headers-clear, chosen-first, chosen-second}
+use Rattle.lookup.proofs.Fetch.{range-decides, fetch-passed, chosen-first, chosen-second}
 use Rattle.lookup.proofs.Fetch.{second-has, Held, held-in-first, held-in-second}
 use Rattle.lookup.specs.declared.Stored.{Stored}
 use Rattle.lookup.specs.declared.PositionAnswer.{PositionAnswer as Answer}
@@ -84,19 +84,19 @@ module _ (first second : Lent) (number offset len : ℕ) where
   it-is-there : Bytes (first .bytes) → Bytes (second .bytes) → refusal first second number offset len ≡ 0
       → (taken : Lent) × Whichever first second number taken × (offset + len ≤ length (taken .bytes))
   it-is-there b d sound =
-      let clear = headers-clear (first .bytes) (second .bytes) number offset len sound in
+      let clear = fetch-passed (first .bytes) (second .bytes) number offset len sound in
       ⊎-elim
       (λ no.
       let n = eqb-false (sequenceOf (first .bytes)) number no in
       let has = second-has (first .bytes) (second .bytes) number offset len sound n in (
         second,
-        the-second (has-number _ _ b (clear .0) refl) n (has-number _ _ d (clear .1) has),
+        the-second (has-number _ _ b (clear .first-sound) refl) n (has-number _ _ d (clear .second-sound) has),
         held-in-second _ _ (first .at) (second .at) _ _ _ sound n .fits,
       ))
       (λ yes.
       let has = eqb-true (sequenceOf (first .bytes)) number yes in (
         first,
-        the-first (has-number _ _ b (clear .0) has) (has-number _ _ d (clear .1) refl),
+        the-first (has-number _ _ b (clear .first-sound) has) (has-number _ _ d (clear .second-sound) refl),
         held-in-first _ _ (first .at) (second .at) _ _ _ sound has .fits,
       ))
       (dichotomy (eqb (sequenceOf (first .bytes)) number))

@@ -49,18 +49,23 @@ module _ (first second : List ℕ) (number offset len : ℕ) where
   unfolding firstOf
   range-decides fault other out e z d y o = rw (decided, ← e, eq-eqb fault 0 z, ← d, eq-eqb other 0 y, ← o)
 
--- a range that is not refused lies within the volume that has the number
-pub fetch-clear : (first second : List ℕ) (number offset len : ℕ) → fetchFault first second number offset len ≡ 0
-    → outOf offset len (chosen first second number) ≡ false
-unfolding fetchFault
-fetch-clear first second number offset len e = passed 16 (fetchOrder first second number offset len) tt e
+-- What a fetch that is not refused has passed, by name: both headers are sound, and the range lies within the volume that has the
+-- number. Only here are the checks of its table counted.
+pub record FetchPassed (first second : List ℕ) (number offset len : ℕ) : Type 0 where
+  pub first-sound : headerFault first ≡ 0
+  pub second-sound : headerFault second ≡ 0
+  pub in-range : outOf offset len (chosen first second number) ≡ false
 
--- and both headers are sound
-pub headers-clear : (first second : List ℕ) (number offset len : ℕ) → fetchFault first second number offset len ≡ 0
-    → (headerFault first ≡ 0) × (headerFault second ≡ 0)
+pub fetch-passed : (first second : List ℕ) (number offset len : ℕ) → fetchFault first second number offset len ≡ 0
+    → FetchPassed first second number offset len
 unfolding fetchFault headerFault
-headers-clear first second number offset len e =
-    (passed-part 0 8 (fetchOrder first second number offset len) tt e, passed-part 8 8 (fetchOrder first second number offset len) tt e)
+fetch-passed first second number offset len e =
+    let order = fetchOrder first second number offset len in
+    record {
+      first-sound = passed-part 0 8 order tt e;
+      second-sound = passed-part 8 8 order tt e;
+      in-range = passed 16 order tt e;
+    }
 
 -- What belongs to the first volume, where it has the number: also where both do.
 pub of-first : {A : Type 0} (first second : List ℕ) (number : ℕ) (a b c : A) → sequenceOf first ≡ number
@@ -88,7 +93,7 @@ pub second-has : (first second : List ℕ) (number offset len : ℕ) → fetchFa
 unfolding chosen
 second-has first second number offset len sound n =
     go (eqb (sequenceOf second) number) refl
-    (rw (ne-eqb (sequenceOf first) number n) at (fetch-clear first second number offset len sound))
+    (rw (ne-eqb (sequenceOf first) number n) at (fetch-passed first second number offset len sound .in-range))
   where
     go : (t : Bool) → eqb (sequenceOf second) number ≡ t → outOf offset len (cond t (some second) none) ≡ false
         → sequenceOf second ≡ number
@@ -115,7 +120,7 @@ module _ (first second : List ℕ) (firstAt secondAt : Address) (number offset l
   held volume whole v w =
       let clear = eq-eqb (fetchFault first second number offset len) 0 sound in
       record {
-        fits = within (chosen first second number) volume offset len v (fetch-clear first second number offset len sound);
+        fits = within (chosen first second number) volume offset len v (fetch-passed first second number offset len sound .in-range);
         bytes = rw (clear, v);
         address = rw (clear, w);
       }
