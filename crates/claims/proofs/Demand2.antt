@@ -22,11 +22,12 @@ use Rattle.runs.proofs.Keeper.{keeper-some, one-keeper, some-keeper}
 use Rattle.runs.proofs.Labels.{label-none, label-some}
 use Rattle.lookup.specs.Lookup.{placeFor, lookupFault, positionAnswer}
 use Rattle.lookup.specs.declared.PositionAnswer.the-variants.{PastEnd}
+use Rattle.lookup.proofs.Clear.{RegularFile, Clear, a-lookup-without-a-fault-is-clear}
 use Rattle.lookup.proofs.Answers.{position-refused, runs-refused, room-kept}
 use lib.ListN.{length}
 use Rattle.claims.specs.Library.{ours}
 use Rattle.claims.specs.Demand2.{AllIsThere, IsPlace, in-a-row, in-each-copy, IsHole, IsStored, LookupClaim, Demand2}
-use Rattle.claims.proofs.File.{Passed, all-passed, is-there, all-is-there, no-fault}
+use Rattle.claims.proofs.File.{is-there, all-is-there, no-fault}
 use Rattle.claims.proofs.Ranges.{answer-below, range-claim}
 
 -- the place of a position that a sound extent keeps, by multiplicity
@@ -47,8 +48,11 @@ module _ (volume : List ℕ) (offset : ℕ) (lengths : List ℕ) (clear : lookup
   abbrev list : List ℕ
   list = restAt volume offset
 
-  passed : Passed volume offset lengths
-  passed = all-passed volume offset lengths clear
+  known : Clear volume offset lengths
+  known = a-lookup-without-a-fault-is-clear volume offset lengths clear
+
+  file : RegularFile volume offset
+  file = known .opening .file
 
   past-end : (position : ℕ) → sizeAt volume offset ≤ position → positionAnswer volume offset lengths position ≡ PastEnd
   unfolding positionAnswer
@@ -61,7 +65,7 @@ module _ (volume : List ℕ) (offset : ℕ) (lengths : List ℕ) (clear : lookup
           kept-by-none =
               λ index k.
               none-some e
-              (some-keeper list (passed .apart) index position (k .0) (position-keeps (extentAt list index) position (k .1)));
+              (some-keeper list (file .apart) index position (k .0) (position-keeps (extentAt list index) position (k .1)));
           answer = answer-below volume offset lengths clear position h ∙ ap (placeFor list position) e;
           run-label = label-none list position e;
         }
@@ -71,15 +75,15 @@ module _ (volume : List ℕ) (offset : ℕ) (lengths : List ℕ) (clear : lookup
         let k = keeper-some list i position e in
         let x : Extent = extentAt list i in
         let kept : KeepsPosition x position = keeps-position x position (k .1) in
-        let sound : isSound x ≡ true = each-sound list (passed .sound) i (k .0) in
+        let sound : isSound x ≡ true = each-sound list (file .sound) i (k .0) in
         let place : StoredPlace x position = stored-place x position sound (k .1) in
-        let within = is-there volume offset lengths passed i (k .0) (omega arith) in
+        let within = is-there volume offset lengths known i (k .0) (omega arith) in
         record {
           keeper = i;
           kept = (k .0, kept);
           by-no-other =
               λ index o.
-              one-keeper list (passed .apart) index i position (o .0) (k .0) (position-keeps (extentAt list index) position (o .1)) (k .1);
+              one-keeper list (file .apart) index i position (o .0) (k .0) (position-keeps (extentAt list index) position (o .1)) (k .1);
           place = storedAt x position;
           is-place = place-is x position sound (k .1);
           answer = answer-below volume offset lengths clear position h ∙ ap (placeFor list position) e;
@@ -103,7 +107,7 @@ module _ (volume : List ℕ) (offset : ℕ) (lengths : List ℕ) (clear : lookup
 pub demand-2-holds : Demand2 ours
 demand-2-holds volume offset lengths b =
     let clear-iff-there : (lookupFault volume offset lengths ≡ 0) ↔ AllIsThere volume offset lengths
-    = (λ clear. all-is-there volume offset lengths b (all-passed volume offset lengths clear), no-fault volume offset lengths) in
+    = (λ clear. all-is-there volume offset lengths b (a-lookup-without-a-fault-is-clear volume offset lengths clear), no-fault volume offset lengths) in
     record {
       no-fault-iff-all-is-there = clear-iff-there;
       answered = λ all. claim volume offset lengths (clear-iff-there .1 all);

@@ -2,59 +2,39 @@
 -- block stands there by the format and its extents that keep something lie within the volumes that they name. Assumes nothing.
 use Prim.Native.Nat.{ℕ, _+_, _*_, _%_, _≤_, _<_}
 use mathlib.Core.Path.{_≡_, refl, sym, ap, _∙_}
-use mathlib.Core.Bool.{false, not, true≢false, and-false}
-use mathlib.Core.Logic.{⊎-elim}
+use mathlib.Core.Bool.{false, not, and-false}
 use mathlib.Core.List.{List, [], _∷_, _++_}
-use mathlib.Mathlib.Data.Bool.Basic.{dichotomy, or-eq-false-eq-eq-false-and-eq-false as both-false}
-use native.Mathlib.Nat.{add-zero, zero-mul}
+use mathlib.Mathlib.Data.Bool.Basic.{or-eq-false-eq-eq-false-and-eq-false as both-false}
+use native.Mathlib.Nat.{add-zero}
 use native.Mathlib.Omega.{arith}
-use lib.Dec.{leb, ltb, eqb}
+use lib.Dec.{eqb}
 use lib.ListN.{length, drop, getD, length-append, length-drop}
-use borrow.Author.Tests.{leb-false, ltb-false, eqb-true, not-false, lt-ltb, le-ltb, lt-leb, eq-eqb}
+use borrow.Author.Tests.{ltb-false, eqb-true, not-false, le-ltb, lt-leb, eq-eqb}
 use Rattle.number.specs.Number.{Bytes, part}
 use Rattle.number.proofs.Digits.{bytes-drop}
 use Rattle.number.proofs.Parts.{length-part, bytes-part, drop-part}
 use Rattle.checks.specs.Checks.{check, firstFault, clear, miss}
-use Rattle.checks.proofs.Laws.{passed, passed-part, decided, rest, none-append}
-use Rattle.checks.proofs.Scan.{any-false, any-nowhere}
+use Rattle.checks.proofs.Laws.{decided, rest, none-append}
+use Rattle.checks.proofs.Scan.{any-nowhere}
 use Rattle.order.proofs.Cases.{cases}
 use Rattle.format.specs.declared.Extent.{Extent}
 use Rattle.format.specs.Layout.{laid}
 use Rattle.format.specs.Extents.{extentWidths, extentFields, keptLength, footprint}
-use Rattle.format.specs.Blocks.{Kind, inodeBlock, linkBlock, unlinkBlock, xattrBlock, removedXattrBlock, dataBlock, renameBlock, linkTable}
-use Rattle.format.specs.Blocks.{Block, idOf, kindOf, fields, image, FileType, regular, symbolicLink, other, fileType}
+use Rattle.format.specs.Blocks.{Block, inodeBlock, idOf, kindOf, fields, image, regular, fileType}
 use Rattle.format.proofs.Fields.{valuesIn, laid-values, values-listed}
-use Rattle.extent.specs.Extents.{extentAt, someBroken, someOverlap}
+use Rattle.extent.specs.Extents.{extentAt}
 use Rattle.extent.proofs.Sound.{each-sound, sound-rules, fields-fit}
-use Rattle.block.specs.Fields.{idAt, kindWith, kindAt, before, bodyLength, typeAt, sizeAt, restAt}
-use Rattle.block.specs.Order.{volumeLimit, unknownId, wrongPlace, kindOrder, ruleBroken, inodeBroken, rangesOverlap, rangesMeet}
+use Rattle.block.specs.Fields.{idAt, kindWith, kindAt, before, bodyLength, typeAt, restAt}
+use Rattle.block.specs.Order.{volumeLimit, unknownId, wrongPlace, kindOrder}
 use Rattle.block.specs.Shown.{blockOf, shown}
 use Rattle.block.proofs.Ids.{id-known, kind-known}
-use Rattle.block.proofs.Places.{block-within}
 use Rattle.block.proofs.BlockImage.{Stands, block-sound, Reads, block-complete, length-image}
-use Rattle.lookup.specs.Lookup.{entryCount, lengthOf, lengthsWrong, notFile, isFile, isAbsent, someAbsent, isStray, someStray, lookupOrder, lookupFault}
+use Rattle.lookup.specs.Lookup.{entryCount, lengthOf, lengthsWrong, notFile, isFile, isAbsent, someAbsent, someStray, lookupFault}
+use Rattle.lookup.proofs.Clear.{RegularFile, Clear, each-present, present}
+use Rattle.lookup.proofs.Stray.{none-stray}
 use Rattle.claims.specs.Demand2.{extentsIn, extentOf, IsFile, IsThere, AllIsThere}
 
--- only a regular file's inode is a file
-file-only : (kind : Kind) (type : FileType) → not (isFile kind type) ≡ false → (kind ≡ inodeBlock) × (type ≡ regular)
-file-only inodeBlock regular e = (refl, refl)
-file-only inodeBlock symbolicLink e = absurd (true≢false e)
-file-only inodeBlock other e = absurd (true≢false e)
-file-only linkBlock type e = absurd (true≢false e)
-file-only unlinkBlock type e = absurd (true≢false e)
-file-only xattrBlock type e = absurd (true≢false e)
-file-only removedXattrBlock type e = absurd (true≢false e)
-file-only dataBlock type e = absurd (true≢false e)
-file-only renameBlock type e = absurd (true≢false e)
-file-only linkTable type e = absurd (true≢false e)
-
--- an extent is not absent exactly if it keeps nothing or is there
-present : (lengths : List ℕ) (e : Extent) → isAbsent lengths e ≡ false → 0 < keptLength e → IsThere lengths e
-unfolding isAbsent
-present lengths e h some =
-    let p = both-false (leb (entryCount lengths) (e .volume)) _ .0 (rw (lt-ltb 0 (keptLength e) some) at h) in
-    (leb-false _ _ (p .0), ltb-false _ _ (p .1))
-
+-- an extent is not absent if it keeps nothing or is there
 not-absent : (lengths : List ℕ) (e : Extent) → (0 < keptLength e → IsThere lengths e) → isAbsent lengths e ≡ false
 unfolding isAbsent
 not-absent lengths e there =
@@ -63,58 +43,6 @@ not-absent lengths e there =
     let t = there some in
     rw (lt-leb (entryCount lengths) (e .volume) (t .0), le-ltb (lengthOf lengths (e .volume)) (e .start .0 + footprint e) (t .1), and-false))
     (λ none. rw (le-ltb 0 (keptLength e) none))
-
--- and no extent is stray: a block of size 0 has no byte to keep
-not-stray : (e : Extent) → isStray e ≡ false
-unfolding isStray
-not-stray e =
-    ⊎-elim
-    (λ q. rw q (and-false (ltb 0 (keptLength e))))
-    (λ q.
-    let s : e .size ≡ 0 = eqb-true (e .size) 0 q in
-    let l : keptLength e ≤ 0 = rw (s, zero-mul) (omega arith) in
-    rw (le-ltb 0 (keptLength e) l))
-    (dichotomy (eqb (e .size) 0))
-
-module _ (volume : List ℕ) (offset : ℕ) (lengths : List ℕ) where
-  -- the checks that matter for places
-  pub record Passed : Type 0 where
-    pub kind : kindAt volume offset ≡ inodeBlock
-    pub type : typeAt volume offset ≡ regular
-    pub own : firstFault (kindOrder inodeBlock volume offset) ≡ 0
-    pub id : idAt volume offset ≡ idOf inodeBlock
-    pub whole : bodyLength inodeBlock volume offset % 57 ≡ 0
-    pub sound : someBroken (restAt volume offset) ≡ false
-    pub apart : someOverlap (restAt volume offset) ≡ false
-    pub there : someAbsent lengths (restAt volume offset) ≡ false
-    pub entries : lengthsWrong lengths ≡ false
-    pub small : length volume ≤ volumeLimit
-    pub base : 80 ≤ offset
-
-  pub all-passed : lookupFault volume offset lengths ≡ 0 → Passed
-  unfolding lookupFault notFile ruleBroken rangesOverlap
-  all-passed e =
-      let order = lookupOrder volume offset lengths in
-      let f = file-only (kindAt volume offset) (typeAt volume offset) (passed 14 order tt e) in
-      let own : firstFault (kindOrder inodeBlock volume offset) ≡ 0 = rw (f .0) at (passed-part 6 8 order tt e) in
-      let kinds = kindOrder inodeBlock volume offset in
-      let rule : inodeBroken (typeAt volume offset) (sizeAt volume offset) (bodyLength inodeBlock volume offset) (restAt volume offset) ≡ false
-      = passed 5 kinds tt own in
-      let meet : rangesMeet (typeAt volume offset) (restAt volume offset) ≡ false = passed 6 kinds tt own in
-      let r = both-false (not (eqb (bodyLength inodeBlock volume offset % 57) 0)) _ .0 (rw (f .1) at rule) in
-      record {
-        kind = f .0;
-        type = f .1;
-        own = own;
-        id = sym (id-known (idAt volume offset) (passed 4 order tt e)) ∙ ap idOf (f .0);
-        whole = eqb-true _ _ (not-false _ (r .0));
-        sound = r .1;
-        apart = rw (f .1) at meet;
-        there = passed 15 order tt e;
-        entries = passed 0 order tt e;
-        small = ltb-false _ _ (passed 1 order tt e);
-        base = ltb-false _ _ (passed 2 order tt e);
-      }
 
 -- the fields of an extent stand where it is read
 fields-stand : (list : List ℕ) (index : ℕ) → extentFields (extentAt list index) ≡ valuesIn extentWidths (drop (57 * index) list)
@@ -128,22 +56,23 @@ extent-stands list index b h =
     let long : 57 ≤ length (drop (57 * index) list) = omega (arith, length-drop (57 * index) list) in
     rw (fields-stand list index) (sym (laid-values extentWidths (drop (57 * index) list) (bytes-drop (57 * index) list b) long))
 
-module _ (volume : List ℕ) (offset : ℕ) (lengths : List ℕ) (b : Bytes volume) (p : Passed volume offset lengths) where
+module _ (volume : List ℕ) (offset : ℕ) (b : Bytes volume) (p : RegularFile volume offset) where
   abbrev list : List ℕ
   list = restAt volume offset
 
   list-whole : length list ≡ 57 * extentsIn volume offset
   list-whole =
       let n : ℕ = bodyLength inodeBlock volume offset in
-      let within = block-within inodeBlock volume offset (p .kind) (rw (p .kind) (p .own)) in
+      let within = p .whole in
       let l : length list ≡ n = length-part volume (offset + before inodeBlock) n (omega arith) in
-      omega (arith, p .whole)
+      omega (arith, p .entire)
 
   pub file-stands : IsFile volume offset
   unfolding shown blockOf bodyLength
   file-stands =
+      let id : idAt volume offset ≡ idOf inodeBlock = sym (id-known (idAt volume offset) (p .block .known)) ∙ ap idOf (p .kind) in
       let s : Stands inodeBlock volume offset (shown volume (blockOf inodeBlock volume offset))
-      = block-sound inodeBlock volume offset b (p .id) (p .own) in
+      = block-sound inodeBlock volume offset b id (p .own) in
       let bytes : Bytes list = bytes-part volume (offset + before inodeBlock) (bodyLength inodeBlock volume offset) b in
       record {
         block = shown volume (blockOf inodeBlock volume offset);
@@ -159,25 +88,23 @@ module _ (volume : List ℕ) (offset : ℕ) (lengths : List ℕ) (b : Bytes volu
       }
 
 -- an extent that keeps something is there
-module _ (volume : List ℕ) (offset : ℕ) (lengths : List ℕ) (p : Passed volume offset lengths) where
+module _ (volume : List ℕ) (offset : ℕ) (lengths : List ℕ) (p : Clear volume offset lengths) where
   pub is-there : (index : ℕ) → index < extentsIn volume offset → 0 < keptLength (extentOf volume offset index)
       → IsThere lengths (extentOf volume offset index)
-  unfolding someAbsent
   is-there index h =
-      present lengths (extentOf volume offset index)
-      (any-false (λ i. isAbsent lengths (extentOf volume offset i)) (extentsIn volume offset) (p .there) index h)
+      present lengths (extentOf volume offset index) (each-present lengths (restAt volume offset) (p .none-absent) index h)
 
-pub all-is-there : (volume : List ℕ) (offset : ℕ) (lengths : List ℕ) → Bytes volume → Passed volume offset lengths
+pub all-is-there : (volume : List ℕ) (offset : ℕ) (lengths : List ℕ) → Bytes volume → Clear volume offset lengths
     → AllIsThere volume offset lengths
 unfolding lengthsWrong
 all-is-there volume offset lengths b p =
-    let e = both-false (not (eqb (length lengths % 8) 0)) _ .0 (p .entries) in
+    let e = both-false (not (eqb (length lengths % 8) 0)) _ .0 (p .opening .lengths-right) in
     record {
       whole-entries = eqb-true _ _ (not-false _ (e .0));
       few-entries = ltb-false _ _ (e .1);
-      small = p .small;
-      after-the-header = p .base;
-      file = file-stands volume offset lengths b p;
+      small = p .opening .file .block .small;
+      after-the-header = p .opening .file .block .base;
+      file = file-stands volume offset b (p .opening .file);
       there = is-there volume offset lengths p;
     }
 
@@ -214,14 +141,14 @@ module _ (volume : List ℕ) (offset : ℕ) (lengths : List ℕ) (m : AllIsThere
   entries-right = rw (eq-eqb (length lengths % 8) 0 (m .whole-entries), le-ltb 4096 (entryCount lengths) (m .few-entries))
 
   later-clear : firstFault (check (notFile volume offset) 15 ∷ check (someAbsent lengths (restAt volume offset)) 16 ∷ check (someStray (restAt volume offset)) 18 ∷ []) ≡ 0
-  unfolding notFile someAbsent someStray
+  unfolding notFile someAbsent
   later-clear =
       let file : not (isFile (kindAt volume offset) (typeAt volume offset)) ≡ false = rw (kind-is, type-is) in
       sym (
       decided (
       miss file
       (miss (any-nowhere _ (extentsIn volume offset) (λ i h. not-absent lengths (extentOf volume offset i) (m .there i h)))
-      (miss (any-nowhere _ (extentsIn volume offset) (λ i h. not-stray (extentOf volume offset i))) clear))
+      (miss (none-stray (restAt volume offset)) clear))
       )
       )
 
