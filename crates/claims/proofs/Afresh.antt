@@ -16,9 +16,9 @@ use Rattle.request.specs.Asking.{requestFor}
 use Rattle.volume.specs.declared.Bookmark.{Bookmark}
 use Rattle.volume.proofs.HeaderImage.{length-header}
 use Rattle.volume.proofs.OneCall.{after}
-use Rattle.volume.proofs.Appending.{Admitted, admitted-appended, Written, header-written}
 use Rattle.claims.specs.Library.{ours}
 use Rattle.claims.specs.Demand3.{Outcome, appends, extended, IsNext, FreshClaim}
+use Rattle.claims.proofs.Appending.{Admitted, admitted-appended, Written, header-written}
 use Rattle.claims.proofs.Sofar.{Follow, startOf, Sofar, keeps-follow, sofar-more}
 use Rattle.claims.proofs.Appends.{extended-none, extended-twice, drop-later}
 use Rattle.claims.proofs.Starts.{header-stands}

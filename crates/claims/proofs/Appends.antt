@@ -24,10 +24,10 @@ use Rattle.volume.specs.declared.ReadAnswer.the-variants as read
 use Rattle.volume.specs.declared.WriteAnswer.{WriteAnswer}
 use Rattle.volume.proofs.Steps.{foundAt, Answers, ends, finds, refuses, answers, read-further}
 use Rattle.volume.proofs.OneCall.{after, HandedOut, read-sound, Hands, read-complete}
-use Rattle.volume.proofs.Appending.{Appended, appended}
-use Rattle.volume.proofs.Appending as one
 use Rattle.claims.specs.Library.{ours}
 use Rattle.claims.specs.Demand3.{Outcome, onward, answeredFirst, appends, extended, Judged, none-left, accepted, refused, StillRead}
+use Rattle.claims.proofs.Appending.{Appended, appended}
+use Rattle.claims.proofs.Appending as one
 use Rattle.claims.proofs.Sofar.{Sofar, sofar-more, admitted-permits, permits-admitted}
 
 -- no blocks more, and blocks in two steps

@@ -16,10 +16,10 @@ use Rattle.request.specs.Asking.{Sized}
 use Rattle.volume.specs.declared.Bookmark.{Bookmark}
 use Rattle.request.proofs.Asked.{one-block}
 use Rattle.request.proofs.Sizes.{rules-sized}
-use Rattle.volume.proofs.Appending.{header-sized}
 use Rattle.claims.specs.Library.{ours}
 use Rattle.claims.specs.Demand3Reading.{ReaderGives}
 use Rattle.claims.specs.Demand3.{Outcome, appends, written, VolumeClaim, Start, extended, AcceptedVolume, AppendsClaim, Demand3}
+use Rattle.claims.proofs.Appending.{header-sized}
 use Rattle.claims.proofs.Demand3Reading.{reading-gives, check-answers, demand-3-reading-holds}
 use Rattle.claims.proofs.Refused.{refused-volumes}
 use Rattle.claims.proofs.Sofar.{volume-more, Sofar, sofar-keeps, none-due}

@@ -1,3 +1,4 @@
+pub mod Appending
 pub mod Walk
 pub mod Reader
 pub mod Refused

@@ -17,8 +17,8 @@ use Rattle.volume.specs.Heading.{firstMark}
 use Rattle.request.specs.Requests.{Request}
 use Rattle.volume.specs.declared.Bookmark.{Bookmark}
 use Rattle.volume.proofs.OneCall.{Allowed, after}
-use Rattle.volume.proofs.Appending.{Admitted}
 use Rattle.claims.specs.Demand3.{extended, Permits, NoTableDue}
+use Rattle.claims.proofs.Appending.{Admitted}
 use Rattle.claims.proofs.Walk.{Runs, afterAll, runs-volume, volume-runs}
 
 -- Blocks one after the other, and one more.

@@ -15,10 +15,10 @@ use Rattle.volume.specs.Heading.{firstMark}
 use Rattle.volume.specs.declared.Bookmark.{Bookmark}
 use Rattle.volume.specs.declared.Accepted.{Accepted}
 use Rattle.volume.proofs.HeaderImage.{length-header, HeaderStands, header-sound}
-use Rattle.volume.proofs.Appending.{Written, written-header}
 use Rattle.claims.specs.Library.{ours}
 use Rattle.claims.specs.Demand3Reading.{ReaderGives}
 use Rattle.claims.specs.Demand3.{Start, from-volume, from-header}
+use Rattle.claims.proofs.Appending.{Written, written-header}
 use Rattle.claims.proofs.Walk.{afterAll}
 use Rattle.claims.proofs.Demand3Reading.{given, gives-reading, reading-gives, check-answers}
 use Rattle.claims.proofs.Sofar.{startOf, offset-after, Sofar, take-written, keeps-follow}

@@ -21,10 +21,10 @@ use Rattle.volume.specs.declared.Verdict.the-variants as verdict
 use Rattle.volume.specs.declared.WriteAnswer.{WriteAnswer}
 use Rattle.volume.specs.declared.WriteAnswer.the-variants as write
 use Rattle.volume.proofs.OneCall.{after}
-use Rattle.volume.proofs.Appending.{admitted-appended}
 use Rattle.claims.specs.Demand3Reading.{ReaderGives}
 use Rattle.claims.specs.Demand3.{extended, Judged, none-left, accepted, refused, NoTableDue, appends, Start, from-volume, Demand3}
 use Rattle.claims.specs.Wrong.{storesNothing, alwaysDue}
+use Rattle.claims.proofs.Appending.{admitted-appended}
 use Rattle.claims.proofs.Bytes.{zeros-bytes, volume-bytes}
 use Rattle.claims.proofs.Demand3Reading.{reading-gives, check-answers}
 use Rattle.claims.proofs.Tried.{bare, first-rules, bare-keeps, bare-long, whole, of-bare, data-rules}

@@ -17,19 +17,19 @@ use Rattle.refusal.specs.declared.Refusal.{Refusal}
 use Rattle.format.specs.Blocks.{Block, image}
 use Rattle.format.specs.Headers.{Header, headerImage, HeaderRules}
 use Rattle.block.specs.Order.{volumeLimit}
-use Rattle.volume.specs.Heading.{firstMark}
-use Rattle.volume.specs.Reading.{markAfter}
 use Rattle.request.specs.Requests.{Request, isTable, timeIn, imageIn, requestOrder}
 use Rattle.request.specs.Asking.{requestFor, Sized}
-use Rattle.volume.specs.Writing.{placeOrder, appendFault, appendAnswer, appendBuffer}
-use Rattle.volume.specs.Writing.{SizedHeader, writeFault, writeAnswer, writeBuffer}
-use Rattle.volume.specs.declared.Bookmark.{Bookmark}
-use Rattle.volume.specs.declared.WriteAnswer.{WriteAnswer}
-use Rattle.volume.specs.declared.WriteAnswer.the-variants.{Next, Refused}
-use Rattle.volume.proofs.Passed.{append-passed, write-passed}
-use Rattle.volume.proofs.HeaderImage.{hash-rule, hash-right}
-use Rattle.volume.proofs.OneCall.{Allowed, after, follows, may-follow, right-place, place-right}
 use Rattle.request.proofs.Asked.{blockIn, Asked, request-sound, request-complete, Agree, asked-agree}
+use Rattle.volume.specs.Heading.{firstMark}
+use Rattle.volume.specs.Reading.{markAfter}
+use Rattle.volume.specs.Writing.{placeOrder, appendFault, appendAnswer, appendBuffer}
+use Rattle.volume.specs.Writing.{SizedHeader, writeFault, writeAnswer, writeBuffer}
+use Rattle.volume.specs.declared.Bookmark.{Bookmark}
+use Rattle.volume.specs.declared.WriteAnswer.{WriteAnswer}
+use Rattle.volume.specs.declared.WriteAnswer.the-variants.{Next, Refused}
+use Rattle.volume.proofs.Passed.{append-passed, write-passed}
+use Rattle.volume.proofs.HeaderImage.{hash-rule, hash-right}
+use Rattle.volume.proofs.OneCall.{Allowed, after, follows, may-follow, right-place, place-right}
 
 -- The checks of an append.
 
