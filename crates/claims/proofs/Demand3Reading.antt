@@ -1,5 +1,5 @@
 -- Demand 3 on reading holds: a volume's reading, the reader's calls and the check are each got from the others. Assumes nothing.
-use Prim.Native.Nat.{ℕ, suc, _≤_}
+use Prim.Native.Nat.{ℕ, _≤_}
 use mathlib.Core.Path.{_≡_, sym, ap, ap₂, _∙_, subst}
 use mathlib.Core.List.{List, _++_}
 use native.Mathlib.Nat.{zero-add}
@@ -11,19 +11,22 @@ use Rattle.format.specs.Blocks.{Block}
 use Rattle.format.specs.Headers.{Header, headerImage}
 use Rattle.format.specs.Readings.{Reading, Keeps, images, volumeOf, ReadingOf, HasReading}
 use Rattle.volume.specs.Heading.{idOf, sequenceOf, previousOf, headerFault, firstMark, headerAnswer, partAnswer}
-use Rattle.volume.specs.Checking.{checkFrom, afterHeader, checkAnswer}
+use Rattle.volume.specs.Checking.{Checked, refused-at-the-header, after-the-header}
+use Rattle.volume.specs.inner.Check.{checkAnswer}
 use Rattle.volume.specs.declared.Bookmark.{Bookmark}
 use Rattle.volume.specs.declared.Accepted.{Accepted}
 use Rattle.volume.specs.declared.Header.{Header as VolumeHeader}
 use Rattle.volume.specs.declared.HeaderAnswer.{HeaderAnswer}
 use Rattle.volume.specs.declared.HeaderAnswer.the-variants as head
+use Rattle.volume.specs.declared.Verdict.{Verdict}
 use Rattle.volume.specs.declared.Verdict.the-variants as verdict
 use Rattle.volume.proofs.HeaderImage.{headerAt, HeaderStands, header-sound, length-header, HeaderShown, header-complete}
 use Rattle.volume.proofs.HeaderImage.{givenAt, HeaderAnswers, accepts, rejects, header-answers}
+use Rattle.volume.proofs.Checked.{checked, checked-exactly}
 use Rattle.claims.specs.Library.{ours}
 use Rattle.claims.specs.Demand3Reading.{Calls, ReaderGives, IsAccepted, Demand3Reading}
 use Rattle.claims.proofs.Walk.{afterAll, runs-volume, volume-runs}
-use Rattle.claims.proofs.Reader.{Read, calls-sound, calls-complete, check-complete, check-ends, calls-same}
+use Rattle.claims.proofs.Reader.{Read, calls-sound, calls-complete, check-complete, Told, told, calls-same}
 
 -- an accepted header has no fault, and it is answered with what stands in it
 header-given : (volume : List ℕ) (given : VolumeHeader) → headerAnswer volume ≡ head.Accepted given
@@ -105,20 +108,24 @@ reading-gives volume reading small r =
 pub check-answers : (volume : List ℕ) (reading : Reading) (end : Bookmark) → ReaderGives ours volume reading end
     → checkAnswer volume
     ≡ verdict.Accepted (record { sequence = reading .header .sequence; blocks = length (reading .blocks); end = end })
-unfolding checkAnswer afterHeader
 check-answers volume reading end g =
-    rw (g .header, ← zero-add (length (reading .blocks))) (check-complete (reading .header .sequence) 0 (g .blocks))
+    sym
+    (checked-exactly volume _ .0
+    (after-the-header (g .header) (rw (← zero-add (length (reading .blocks))) (check-complete (reading .header .sequence) 0 (g .blocks)))))
 
 -- where the check accepts, the reader comes to "end", so there is a reading
 accepted-reading : (volume : List ℕ) → Bytes volume → IsAccepted ours volume → HasReading volume
-unfolding checkAnswer afterHeader checkFrom
-accepted-reading volume b a = go (header-answers volume) (a .1)
+accepted-reading volume b a = go (checked volume) (a .1)
   where
-    go : {h : HeaderAnswer} → HeaderAnswers volume h → afterHeader volume h ≡ verdict.Accepted (a .0) → HasReading volume
-    go (accepts f) e =
-        let c = check-ends (suc (length volume)) volume (sequenceOf volume) (firstMark (sequenceOf volume)) 0 (a .0) e in
-        (record { header = headerAt volume; blocks = c .0 }, header-and-calls volume (c .0) (a .0 .end) b f (c .1))
-    go (rejects f) e = let z : _≡_ {A = ℕ} 0 1 = cc in absurd (omega arith)
+    go : {answer : Verdict} → Checked volume answer → answer ≡ verdict.Accepted (a .0) → HasReading volume
+    go (refused-at-the-header e) same = let z : _≡_ {A = ℕ} 0 1 = cc in absurd (omega arith)
+    go (after-the-header {header = header} e later) same =
+        let h = header-given volume header e in
+        let t : Told volume (header .next) 0 (verdict.Accepted (a .0)) = subst (Told volume (header .next) 0) same (told later) in (
+          record { header = headerAt volume; blocks = t .0 },
+          header-and-calls volume (t .0) (a .0 .end) b (h .0)
+              (subst (λ g. Calls ours volume (g .next) (t .0) (a .0 .end)) (sym (h .1)) (t .1)),
+        )
 
 -- both readings are what the reader gives
 one-reading : (volume : List ℕ) → length volume ≤ 16777216 → (a b : Reading) → ReadingOf volume a → ReadingOf volume b → a ≡ b

@@ -2,7 +2,6 @@
 -- text. Assumes nothing.
 use Prim.Native.Nat.{ℕ, suc, _+_, _≤_, _<_}
 use mathlib.Core.Path.{_≡_, refl, sym, ap, subst, _∙_}
-use mathlib.Core.Logic.{_⊎_, ⊎-elim}
 use mathlib.Core.Bool.{Bool, true, false}
 use mathlib.Core.List.{List, _∷_, _++_, append-assoc}
 use native.Mathlib.Nat.{add-zero, zero-add}
@@ -18,23 +17,28 @@ use Rattle.format.specs.Readings.{Reading}
 use Rattle.block.specs.Shown.{shown}
 use Rattle.volume.specs.Heading.{headerAnswer}
 use Rattle.volume.specs.Reading.{readAnswer}
-use Rattle.volume.specs.Checking.{afterHeader, checkAnswer}
+use Rattle.volume.specs.Checking.{Checked, refused-at-the-header, after-the-header}
+use Rattle.volume.specs.inner.Walk.{onRead}
+use Rattle.volume.specs.inner.Check.{checkAnswer}
 use Rattle.volume.specs.declared.Bookmark.{Bookmark}
 use Rattle.volume.specs.declared.Found.{Found}
 use Rattle.volume.specs.declared.Header.{Header as VolumeHeader}
 use Rattle.volume.specs.declared.HeaderAnswer.{HeaderAnswer}
 use Rattle.volume.specs.declared.HeaderAnswer.the-variants as head
 use Rattle.volume.specs.declared.ReadAnswer.the-variants as read
+use Rattle.volume.specs.declared.Verdict.{Verdict}
+use Rattle.volume.specs.declared.Verdict.the-variants as verdict
+use Rattle.volume.proofs.Walk.{walk-step}
+use Rattle.volume.proofs.Checked.{checked}
 use Rattle.volume.proofs.HeaderImage.{givenAt, HeaderAnswers, accepts, rejects, header-answers}
 use Rattle.volume.proofs.OneCall.{read-sound, end-sound}
-use Rattle.listing.specs.Listing.{headingLine, endLine, refusedLine, lineOf, linesFrom, afterHeading, listing, listAnswer}
-use Rattle.listing.proofs.Steps.{lines-step}
+use Rattle.listing.specs.Listing.{headingLine, endLine, refusedLine, listAnswer}
+use Rattle.listing.specs.inner.Text.{listingWay, linesFrom, afterHeading, listing}
 use Rattle.listing.proofs.BlockLine.{block-has-its-line}
 use Rattle.claims.specs.Library.{ours}
 use Rattle.claims.specs.Demand3Reading.{Calls, ended, handed, ReaderGives, Stops, stopped, handed-before}
 use Rattle.claims.specs.Listed.{linesOf, IsListing, of-an-accepted-volume, of-a-refused-header, of-a-refused-block, of-a-longer-volume, Listed}
-use Rattle.claims.proofs.Reader.{check-complete}
-use Rattle.claims.proofs.Refused.{Ended, Stopped, ends-or-stops}
+use Rattle.claims.proofs.Reader.{Told, told}
 use Rattle.claims.proofs.Demand3Reading.{demand-3-reading-holds}
 
 -- The lines from a bookmark on, by the calls of the reader.
@@ -52,16 +56,16 @@ module _ (volume : List ℕ) (b : Bytes volume) where
 
   lines-of-calls : {mark end : Bookmark} {blocks : List Block} (count : ℕ) → Calls ours volume mark blocks end
       → linesFrom volume mark count ≡ linesOf (mark .offset) blocks ++ endLine (end .offset) (count + length blocks)
-  unfolding lineOf
-  lines-of-calls {mark} count (ended e) = lines-step volume mark count e ∙ rw (add-zero count)
+  unfolding onRead
+  lines-of-calls {mark} count (ended e) = walk-step volume (listingWay volume) mark count e ∙ rw (add-zero count)
   lines-of-calls {mark} count (handed {found = found} {blocks = blocks} e calls) =
       let n : suc count + length blocks ≡ count + suc (length blocks) = omega arith in
       lines-go-on mark found blocks _ count e (rw (← n) (lines-of-calls (suc count) calls))
 
   lines-of-stops : {mark at : Bookmark} {blocks : List Block} {refusal : Refusal} (count : ℕ) → Stops ours volume mark blocks at refusal
       → linesFrom volume mark count ≡ linesOf (mark .offset) blocks ++ refusedLine (refusal .number) (at .offset)
-  unfolding lineOf
-  lines-of-stops {mark} count (stopped e) = lines-step volume mark count e
+  unfolding onRead
+  lines-of-stops {mark} count (stopped e) = walk-step volume (listingWay volume) mark count e
   lines-of-stops {mark} count (handed-before {found = found} {blocks = blocks} e calls) =
       lines-go-on mark found blocks _ count e (lines-of-stops (suc count) calls)
 
@@ -101,29 +105,24 @@ module _ (volume : List ℕ) (b : Bytes volume) (small : length volume ≤ 65536
       (rw (calls-end (g .blocks), zero-add) at (lines-of-calls volume b 0 (g .blocks)))
 
   -- a reading, or where the reader is refused, makes the listing such a text
-  listed-after : (header : VolumeHeader) → headerAnswer volume ≡ head.Accepted header
-      → Ended volume (header .next) ⊎ Stopped volume (header .next) → IsListing ours volume (listing volume)
-  unfolding checkAnswer afterHeader
-  listed-after header e =
-      ⊎-elim
-      (λ reached.
-      let accepted = ap (afterHeader volume) e ∙ check-complete (header .sequence) 0 (reached .calls) in
-      let reading = demand-3-reading-holds volume b (omega arith) .accepted-iff-it-has-a-reading .0 (_, accepted) in
+  listed-after : (header : VolumeHeader) → headerAnswer volume ≡ head.Accepted header → (answer : Verdict) → checkAnswer volume ≡ answer
+      → Told volume (header .next) 0 answer → IsListing ours volume (listing volume)
+  listed-after header e (verdict.Accepted accepted) same t =
+      let reading = demand-3-reading-holds volume b (omega arith) .accepted-iff-it-has-a-reading .0 (accepted, same) in
       let gives = demand-3-reading-holds volume b (omega arith) .reader-gives-the-reading (reading .0) .0 (reading .1) in
-      subst (IsListing ours volume) (sym (text-of-accepted (reading .0) _ (gives .1))) (of-an-accepted-volume (reading .0) small (reading .1)))
-      (λ reached.
-      subst (IsListing ours volume)
-      (sym (text-with header (reached .blocks) _ e (lines-of-stops volume b 0 (reached .calls))))
-      (of-a-refused-block header (reached .blocks) (reached .at) (reached .refusal) small e (reached .calls)))
+      subst (IsListing ours volume) (sym (text-of-accepted (reading .0) _ (gives .1))) (of-an-accepted-volume (reading .0) small (reading .1))
+  listed-after header e (verdict.Refused rejected) same (blocks, at, stops, _) =
+      subst (IsListing ours volume) (sym (text-with header blocks _ e (lines-of-stops volume b 0 stops)))
+      (of-a-refused-block header blocks at (rejected .refusal) small e stops)
 
   listed-here : IsListing ours volume (listing volume)
   unfolding afterHeading
-  listed-here = go (headerAnswer volume) refl
+  listed-here = go (checked volume) refl
     where
-      go : (a : HeaderAnswer) → headerAnswer volume ≡ a → IsListing ours volume (listing volume)
-      go (head.Refused refusal) e = subst (IsListing ours volume) (sym (text-after e)) (of-a-refused-header refusal small e)
-      go (head.Accepted header) e =
-          listed-after header e (ends-or-stops (suc (length volume)) volume (header .next) (omega arith) (omega arith))
+      go : {answer : Verdict} → Checked volume answer → checkAnswer volume ≡ answer → IsListing ours volume (listing volume)
+      go (refused-at-the-header {refusal = refusal} e) same =
+          subst (IsListing ours volume) (sym (text-after e)) (of-a-refused-header refusal small e)
+      go (after-the-header {header = header} {answer = answer} e later) same = listed-after header e answer same (told later)
 
 module _ (volume : List ℕ) (b : Bytes volume) where
   too-long : 65536 < length volume → listing volume ≡ headingLine ++ refusedLine 1 0

@@ -1,6 +1,6 @@
 -- The reader called until "end" hands out exactly blocks that keep the rules and whose images stand there end to end, and the
 -- check counts them. Assumes nothing.
-use Prim.Native.Nat.{ℕ, zero, suc, _+_, _-_, _≤_}
+use Prim.Native.Nat.{ℕ, suc, _+_, _-_, _≤_}
 use mathlib.Core.Path.{_≡_, refl, sym, ap, ap₂, _∙_, subst}
 use mathlib.Core.List.{List, [], _∷_, _++_}
 use native.Mathlib.Nat.{add-zero}
@@ -15,15 +15,12 @@ use Rattle.format.specs.Readings.{images}
 use Rattle.block.specs.Order.{volumeLimit}
 use Rattle.block.specs.Shown.{shown}
 use Rattle.volume.specs.Reading.{readAnswer}
-use Rattle.volume.specs.Checking.{judge, scan, checkFrom}
+use Rattle.volume.specs.Checking.{CheckedFrom, accepted-at-the-end, refused-at-a-block, after-a-block}
 use Rattle.volume.specs.declared.Bookmark.{Bookmark}
 use Rattle.volume.specs.declared.Found.{Found}
-use Rattle.volume.specs.declared.Accepted.{Accepted}
-use Rattle.volume.specs.declared.ReadAnswer.{ReadAnswer}
 use Rattle.volume.specs.declared.ReadAnswer.the-variants as read
 use Rattle.volume.specs.declared.Verdict.{Verdict}
 use Rattle.volume.specs.declared.Verdict.the-variants as verdict
-use Rattle.volume.proofs.Steps.{check-step}
 use Rattle.volume.proofs.OneCall.{after, HandedOut, read-sound, Hands, read-complete, AtEnd, end-sound, end-complete}
 use Rattle.claims.specs.Library.{ours}
 use Rattle.claims.specs.Demand3Reading.{Calls, ended, handed, Stops, stopped, handed-before}
@@ -70,50 +67,44 @@ calls-complete volume mark (block ∷ blocks) small base within runs e =
 
 -- where the reader comes to "end", the check from the same bookmark on accepts, and has counted the blocks
 pub check-complete : {volume : List ℕ} {mark end : Bookmark} {blocks : List Block} (sequence count : ℕ) → Calls ours volume mark blocks end
-    → checkFrom volume sequence mark count
-    ≡ verdict.Accepted (record { sequence = sequence; blocks = count + length blocks; end = end })
-unfolding judge
-check-complete {volume} {mark} sequence count (ended e) = check-step volume sequence mark count ∙ rw (e, add-zero count)
-check-complete {volume} {mark} sequence count (handed {blocks = blocks} e calls) =
+    → CheckedFrom volume sequence mark count
+    (verdict.Accepted (record { sequence = sequence; blocks = count + length blocks; end = end }))
+check-complete sequence count (ended e) = rw (add-zero count) (accepted-at-the-end e)
+check-complete sequence count (handed {blocks = blocks} e calls) =
     let n : suc count + length blocks ≡ count + suc (length blocks) = omega arith in
-    check-step volume sequence mark count ∙ rw (e, ← n) (check-complete sequence (suc count) calls)
+    rw (← n) (after-a-block e (check-complete sequence (suc count) calls))
 
 -- where the reader refuses, the check from the same bookmark on refuses there, and has counted the blocks before
 pub check-stops : {volume : List ℕ} {mark at : Bookmark} {blocks : List Block} {refusal : Refusal} (sequence count : ℕ)
     → Stops ours volume mark blocks at refusal
-    → checkFrom volume sequence mark count
-    ≡ verdict.Refused (record { refusal = refusal; offset = at .offset; blocks = count + length blocks })
-unfolding judge
-check-stops {volume} {mark} sequence count (stopped e) = check-step volume sequence mark count ∙ rw (e, add-zero count)
-check-stops {volume} {mark} sequence count (handed-before {blocks = blocks} e calls) =
+    → CheckedFrom volume sequence mark count
+    (verdict.Refused (record { refusal = refusal; offset = at .offset; blocks = count + length blocks }))
+check-stops sequence count (stopped e) = rw (add-zero count) (refused-at-a-block e)
+check-stops sequence count (handed-before {blocks = blocks} e calls) =
     let n : suc count + length blocks ≡ count + suc (length blocks) = omega arith in
-    check-step volume sequence mark count ∙ rw (e, ← n) (check-stops sequence (suc count) calls)
+    rw (← n) (after-a-block e (check-stops sequence (suc count) calls))
 
--- where the check accepts, the reader comes to "end" at the check's end bookmark
-abbrev Ends : (volume : List ℕ) → Bookmark → Bookmark → Type 0
-Ends volume mark end = (blocks : List Block) × Calls ours volume mark blocks end
+-- what a verdict tells of the reader from a bookmark on, with so many blocks before it: it comes to "end" at the end bookmark, or it is
+-- refused, where and after how many blocks the verdict says
+abbrev pub Told : (volume : List ℕ) → Bookmark → (count : ℕ) → Verdict → Type 0
+Told volume mark count (verdict.Accepted answer) = (blocks : List Block) × Calls ours volume mark blocks (answer .end)
+Told volume mark count (verdict.Refused answer) =
+    (blocks : List Block) × (at : Bookmark) × Stops ours volume mark blocks at (answer .refusal)
+    × (answer ≡ record { refusal = answer .refusal; offset = at .offset; blocks = count + length blocks })
 
-judge-ends : (volume : List ℕ) (sequence : ℕ) (mark : Bookmark) (count : ℕ) (answer : Accepted) (onward : Bookmark → Verdict)
-    → ((next : Bookmark) → onward next ≡ verdict.Accepted answer → Ends volume next (answer .end))
-    → (a : ReadAnswer) → readAnswer volume mark ≡ a → judge sequence mark count onward a ≡ verdict.Accepted answer
-    → Ends volume mark (answer .end)
-unfolding judge
-judge-ends volume sequence mark count answer onward later read.End r e =
-    let end : mark ≡ answer .end = cc in
-    ([], subst (Calls ours volume mark []) end (ended r))
-judge-ends volume sequence mark count answer onward later (read.Found found) r e =
-    let others = later (found .next) e in
-    (shown volume (found .block) ∷ others .0, handed r (others .1))
-judge-ends volume sequence mark count answer onward later (read.Refused refusal) r e =
-    let z : _≡_ {A = ℕ} 0 1 = cc in absurd (omega arith)
+one-more : (volume : List ℕ) (mark : Bookmark) (count : ℕ) (found : Found) → readAnswer volume mark ≡ read.Found found
+    → (answer : Verdict) → Told volume (found .next) (suc count) answer → Told volume mark count answer
+one-more volume mark count found e (verdict.Accepted answer) (blocks, calls) = (shown volume (found .block) ∷ blocks, handed e calls)
+one-more volume mark count found e (verdict.Refused answer) (blocks, at, calls, same) =
+    let n : suc count + length blocks ≡ count + suc (length blocks) = omega arith in
+    (shown volume (found .block) ∷ blocks, at, handed-before e calls, rw n at same)
 
-pub check-ends : (fuel : ℕ) (volume : List ℕ) (sequence : ℕ) (mark : Bookmark) (count : ℕ) (answer : Accepted)
-    → scan fuel volume sequence mark count ≡ verdict.Accepted answer → Ends volume mark (answer .end)
-unfolding scan
-check-ends zero volume sequence mark count answer e = let z : _≡_ {A = ℕ} 0 1 = cc in absurd (omega arith)
-check-ends (suc fuel) volume sequence mark count answer e =
-    judge-ends volume sequence mark count answer (λ next. scan fuel volume sequence next (suc count))
-    (λ next. check-ends fuel volume sequence next (suc count) answer) (readAnswer volume mark) refl e
+pub told : {volume : List ℕ} {sequence count : ℕ} {mark : Bookmark} {answer : Verdict} → CheckedFrom volume sequence mark count answer
+    → Told volume mark count answer
+told (accepted-at-the-end e) = ([], ended e)
+told {count = count} {mark = mark} (refused-at-a-block e) = ([], mark, stopped e, rw (add-zero count) refl)
+told {volume} {count = count} {mark = mark} (after-a-block {found = found} {answer = answer} e later) =
+    one-more volume mark count found e answer (told later)
 
 -- the calls are fixed by the volume and the bookmark
 pub calls-same : {volume : List ℕ} {mark end other-end : Bookmark} {blocks others : List Block}

@@ -26,7 +26,7 @@ use Rattle.block.specs.Order.{volumeLimit, overCount, sumWrong, notText, ruleBr
 use Rattle.block.specs.Shown.{blockOf, shown}
 use Rattle.volume.specs.Heading.{headerFault, headerAnswer}
 use Rattle.volume.specs.Reading.{isEnd, mayFollow, readOrder, readFault, readAnswer}
-use Rattle.volume.specs.Checking.{afterHeader, checkAnswer}
+use Rattle.volume.specs.inner.Check.{afterHeader, checkAnswer}
 use Rattle.volume.specs.declared.HeaderAnswer.the-variants as HeaderAnswer
 use Rattle.volume.specs.declared.ReadAnswer.the-variants.{Found}
 use Rattle.volume.specs.declared.Verdict.the-variants as Verdict

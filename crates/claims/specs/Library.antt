@@ -10,7 +10,7 @@ use Rattle.format.specs.Headers.{Header}
 use Rattle.request.specs.Requests.{Request}
 use Rattle.volume.specs.Heading.{headerAnswer, partAnswer}
 use Rattle.volume.specs.Reading.{readAnswer}
-use Rattle.volume.specs.Checking.{checkAnswer}
+use Rattle.volume.specs.inner.Check.{checkAnswer}
 use Rattle.volume.specs.Writing as writing
 use Rattle.volume.specs.declared.Bookmark.{Bookmark}
 use Rattle.volume.specs.declared.HeaderAnswer.{HeaderAnswer}
@@ -20,7 +20,8 @@ use Rattle.volume.specs.declared.WriteAnswer.{WriteAnswer}
 use Rattle.lookup.specs.Lookup as lookup
 use Rattle.lookup.specs.declared.PositionAnswer.{PositionAnswer}
 use Rattle.lookup.specs.declared.RunsAnswer.{RunsAnswer}
-use Rattle.listing.specs.Listing.{listing, listAnswer}
+use Rattle.listing.specs.Listing.{listAnswer}
+use Rattle.listing.specs.inner.Text.{listing}
 use Rattle.listing.specs.declared.ListAnswer.{ListAnswer}
 
 pub record Library : Type 0 where
@@ -59,6 +60,6 @@ ours =
       position = lookup.positionAnswer;
       runs = lookup.runsAnswer;
       runsList = lookup.runsRoom;
-      list = listAnswer;
+      list = λ room volume. listAnswer room (listing volume);
       listRoom = λ out volume. put out 0 (listing volume);
     }

@@ -20,7 +20,7 @@ use Rattle.extent.specs.Extents.{extentAt}
 use Rattle.block.specs.Fields.{restAt}
 use Rattle.block.specs.Shown.{blockAt, shown}
 use Rattle.volume.specs.Reading.{readAnswer}
-use Rattle.volume.specs.Checking.{checkAnswer}
+use Rattle.volume.specs.inner.Check.{checkAnswer}
 use Rattle.volume.specs.declared.Bookmark.{Bookmark}
 use Rattle.volume.specs.declared.LastTime.the-variants.{At}
 use Rattle.volume.specs.declared.ReadAnswer.the-variants as ReadAnswer

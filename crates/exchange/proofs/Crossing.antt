@@ -30,7 +30,7 @@ use Rattle.block.proofs.TableLinks.{Filled}
 use Rattle.request.specs.Requests.{Request}
 use Rattle.volume.specs.Heading.{sequenceOf, headerFault, firstMark, headerAnswer, partAnswer}
 use Rattle.volume.specs.Reading.{readFault, nextMark, readAnswer}
-use Rattle.volume.specs.Checking.{checkAnswer}
+use Rattle.volume.specs.inner.Check.{checkAnswer}
 use Rattle.volume.specs.Writing.{writeFault, writeAnswer, appendFault, appendAnswer}
 use Rattle.volume.specs.declared.LastTime.{LastTime}
 use Rattle.volume.specs.declared.LastTime.the-variants.{Never, At}

@@ -31,7 +31,7 @@ use Rattle.block.specs.declared.Block.the-variants.{Inode, Link, Unlink, Xattr,
 use Rattle.request.specs.Requests.{Request}
 use Rattle.volume.specs.Heading.{idOffset, previousOffset, headerAnswer, partAnswer}
 use Rattle.volume.specs.Reading.{readAnswer}
-use Rattle.volume.specs.Checking.{checkAnswer}
+use Rattle.volume.specs.inner.Check.{checkAnswer}
 use Rattle.volume.specs.Writing.{writeAnswer, appendAnswer}
 use Rattle.volume.specs.declared.Bookmark.{Bookmark}
 use Rattle.volume.specs.declared.Found.{Found}

@@ -5,7 +5,7 @@ use crate::marks::timed_number;
 use volume::Verdict;
 use volume::checking::check;
 ghost use mathlib.Core.Path.{_≡_};
-ghost use Rattle.volume.specs.Checking.{checkAnswer};
+ghost use Rattle.volume.specs.inner.Check.{checkAnswer};
 ghost use Rattle.exchange.specs.Checking.{checkNumbers};
 
 // All of the check in one pass.

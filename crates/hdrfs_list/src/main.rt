@@ -6,7 +6,8 @@ ghost use mathlib.Core.Path.{_≡_};
 ghost use Prim.Native.Nat.{_≤_};
 ghost use lib.ListN.{length, take};
 ghost use Rattle.io.specs.Counts.{Counts};
-ghost use Rattle.listing.specs.Listing.{listLimit, listing};
+ghost use Rattle.listing.specs.Listing.{listLimit};
+ghost use Rattle.listing.specs.inner.Text.{listing};
 
 // Writes the listing into a room that is long enough for every text, and answers how long the text is.
 fn write_listing(volume: &[u8], room: &mut [u8]) -> usize

@@ -13,17 +13,19 @@ use Rattle.block.proofs.BlockImage.{block-complete}
 use Rattle.volume.specs.Reading.{readAnswer}
 use Rattle.volume.specs.declared.Bookmark.{Bookmark}
 use Rattle.volume.specs.declared.Found.{Found}
-use Rattle.volume.specs.declared.ReadAnswer.the-variants.{Found as Handed}
+use Rattle.volume.specs.declared.ReadAnswer.the-variants as ReadAnswer
+use Rattle.volume.specs.inner.Walk.{onRead}
 use Rattle.volume.proofs.OneCall.{HandedOut, read-sound}
-use Rattle.listing.specs.Listing.{blockLine, lineOf, linesFrom}
-use Rattle.listing.proofs.Steps.{lines-step}
+use Rattle.volume.proofs.Walk.{walk-step}
+use Rattle.listing.specs.Listing.{blockLine}
+use Rattle.listing.specs.inner.Text.{listingWay, linesFrom}
 
 pub block-has-its-line : (volume : List ℕ) (mark : Bookmark) (found : Found) (blocks : ℕ) → Bytes volume
-    → readAnswer volume mark ≡ Handed found
+    → readAnswer volume mark ≡ ReadAnswer.Found found
     → linesFrom volume mark blocks
     ≡ blockLine (mark .offset) (idOf (kindOf (shown volume (found .block)))) (length (image (shown volume (found .block))))
     ++ linesFrom volume (found .next) (suc blocks)
-unfolding lineOf
+unfolding onRead
 block-has-its-line volume mark found blocks b e =
     let block : Block = shown volume (found .block) in
     let h : HandedOut volume mark found = read-sound volume mark found b e in
@@ -31,4 +33,4 @@ block-has-its-line volume mark found blocks b e =
     = block-complete block volume (mark .offset) (drop (found .next .offset) volume) (h .allowed .keeps) (h .same) .id in
     let end : found .next .offset ≡ mark .offset + length (image block) = ap (λ a. a .offset) (h .next) in
     let len : found .next .offset - mark .offset ≡ length (image block) = omega arith in
-    lines-step volume mark blocks e ∙ rw (id, len)
+    walk-step volume (listingWay volume) mark blocks e ∙ rw (id, len)

@@ -1,6 +1,5 @@
 pub mod Digits
 pub mod Pieces
-pub mod Steps
 pub mod Room
 pub mod BlockLine
 pub mod Walk

@@ -6,7 +6,7 @@ use native.Mathlib.Omega.{arith}
 use lib.ListN.{length, length-append}
 use Rattle.number.specs.Number.{put}
 use Rattle.number.proofs.Put.{put-next}
-use Rattle.listing.specs.Writing.{Wrote}
+use Rattle.listing.specs.inner.Writing.{Wrote}
 
 pub then : {old a mid b new : List ℕ} {at p q : ℕ} → Wrote old at a mid p → Wrote mid p b new q → Wrote old at (a ++ b) new q
 then {old} {a} {mid} {b} {new} {at} {p} {q} first second =

@@ -1,7 +1,7 @@
 -- The text has at most 65,536 bytes: the line of a block is never longer than the block, and the heading and the last line
 -- together are shorter than a header. Assumes nothing.
-use Prim.Native.Nat.{ℕ, zero, suc, _+_, _-_, _≤_, _<_}
-use mathlib.Core.Path.{_≡_, refl}
+use Prim.Native.Nat.{ℕ, suc, _+_, _-_, _≤_, _<_}
+use mathlib.Core.Path.{_≡_, refl, sym}
 use mathlib.Core.Bool.{Bool, true, false, _&&_, and-eq-true-iff}
 use mathlib.Core.List.{List, [], _∷_}
 use mathlib.Mathlib.Data.Bool.Basic.{or-eq-false-eq-eq-false-and-eq-false}
@@ -14,13 +14,18 @@ use Rattle.checks.proofs.Laws.{passed}
 use Rattle.format.specs.Blocks.{Kind, inodeBlock, linkBlock, unlinkBlock, xattrBlock, removedXattrBlock, dataBlock, renameBlock, linkTable}
 use Rattle.block.specs.Fields.{idAt, kindAt, before}
 use Rattle.volume.specs.Heading.{sequenceOf, headerOrder, headerFault, firstMark, headerAnswer}
-use Rattle.volume.specs.Reading.{readOrder, readFault, nextMark}
+use Rattle.volume.specs.Reading.{readOrder, readFault, nextMark, readAnswer}
+use Rattle.volume.specs.inner.Walk.{onRead}
 use Rattle.volume.specs.declared.Bookmark.{Bookmark}
+use Rattle.volume.specs.declared.Found.{Found}
 use Rattle.volume.specs.declared.ReadAnswer.{ReadAnswer}
+use Rattle.volume.specs.declared.ReadAnswer.the-variants as ReadAnswer
 use Rattle.volume.proofs.Whole.{header-length}
-use Rattle.volume.proofs.Steps.{foundAt, Answers, ends, finds, refuses, answers, sound-further}
+use Rattle.volume.proofs.Steps.{foundAt, Answers, ends, finds, refuses, answers, found-read, sound-further}
+use Rattle.volume.proofs.Walk.{block-after-block, walk-step}
 use Rattle.listing.specs.Decimal.{decimal}
-use Rattle.listing.specs.Listing.{blockLine, endLine, refusedLine, foundLine, lineOf, lines, linesFrom, afterHeading, listLimit, listing, listAnswer}
+use Rattle.listing.specs.Listing.{blockLine, endLine, refusedLine, listLimit, listAnswer}
+use Rattle.listing.specs.inner.Text.{foundLine, listingWay, linesFrom, afterHeading, listing}
 use Rattle.listing.specs.declared.ListAnswer.the-variants.{Written}
 use Rattle.listing.proofs.Digits.{decimal-short}
 
@@ -81,47 +86,47 @@ read-fault-most volume mark = fault-most 14 (readOrder volume mark) refl
 abbrev roomAt : (volume : List ℕ) → Bookmark → ℕ
 roomAt volume mark = length volume - mark .offset + 23
 
-line-short : (volume : List ℕ) (mark : Bookmark) (blocks : ℕ) (onward : Bookmark → List ℕ)
-    → length volume ≤ listLimit → mark .offset ≤ length volume → blocks ≤ mark .offset
-    → (readFault volume mark ≡ 0 → length (onward (nextMark volume mark)) ≤ roomAt volume (nextMark volume mark))
-    → {a : ReadAnswer} → Answers volume mark a → length (lineOf volume mark blocks onward a) ≤ roomAt volume mark
-unfolding lineOf
-line-short volume mark blocks onward l h b rest (ends p) =
-    omega (arith, end-line-short (mark .offset) blocks (omega arith) (omega arith))
-line-short volume mark blocks onward l h b rest (finds p f) =
-    let next : ℕ = nextMark volume mark .offset in
-    let further = sound-further volume mark f in
-    let least : 13 ≤ next - mark .offset = omega (arith, before-least (kindAt volume (mark .offset))) in
-    let line : length (foundLine volume mark (foundAt volume mark)) ≤ next - mark .offset
-    = block-line-short _ _ _ (omega arith) (sound-id volume mark f) least (omega arith) in
-    simp length-append (omega (arith, rest f))
-line-short volume mark blocks onward l h b rest (refuses p f) =
-    omega (arith, refused-line-short (readFault volume mark) (mark .offset) (omega (arith, read-fault-most volume mark)) (omega arith))
+module _ (volume : List ℕ) (small : length volume ≤ listLimit) where
+  -- the lines from a bookmark on take no more
+  abbrev Short : Bookmark → Type 0
+  Short mark =
+      (blocks : ℕ) → mark .offset ≤ length volume → blocks ≤ mark .offset → length (linesFrom volume mark blocks) ≤ roomAt volume mark
 
-lines-short : (fuel : ℕ) (volume : List ℕ) (mark : Bookmark) (blocks : ℕ)
-    → length volume ≤ listLimit → mark .offset ≤ length volume → blocks ≤ mark .offset
-    → length (lines fuel volume mark blocks) ≤ roomAt volume mark
-unfolding lines
-lines-short zero volume mark blocks l h b = omega arith
-lines-short (suc fuel) volume mark blocks l h b =
-    line-short volume mark blocks (λ next. lines fuel volume next (suc blocks)) l h b
-    (λ f.
-    let further = sound-further volume mark f in
-    lines-short fuel volume (nextMark volume mark) (suc blocks) l (further .1) (omega arith))
-    (answers volume mark)
+  line-short : (mark : Bookmark) (blocks : ℕ) → mark .offset ≤ length volume → blocks ≤ mark .offset
+      → ((found : Found) → readAnswer volume mark ≡ ReadAnswer.Found found → Short (found .next))
+      → {a : ReadAnswer} → Answers volume mark a → length (onRead (listingWay volume) mark blocks (linesFrom volume) a) ≤ roomAt volume mark
+  unfolding onRead
+  line-short mark blocks h b later (ends p) =
+      omega (arith, end-line-short (mark .offset) blocks (omega arith) (omega arith))
+  line-short mark blocks h b later (finds p f) =
+      let next : ℕ = nextMark volume mark .offset in
+      let further = sound-further volume mark f in
+      let least : 13 ≤ next - mark .offset = omega (arith, before-least (kindAt volume (mark .offset))) in
+      let line : length (foundLine volume mark (foundAt volume mark)) ≤ next - mark .offset
+      = block-line-short _ _ _ (omega arith) (sound-id volume mark f) least (omega arith) in
+      let rest = later (foundAt volume mark) (sym (found-read volume mark p f)) (suc blocks) (further .1) (omega arith) in
+      simp length-append (omega (arith, rest))
+  line-short mark blocks h b later (refuses p f) =
+      omega (arith, refused-line-short (readFault volume mark) (mark .offset) (omega (arith, read-fault-most volume mark)) (omega arith))
+
+  lines-short : (mark : Bookmark) → Short mark
+  lines-short =
+      block-after-block volume Short
+      (λ mark later blocks h b.
+      rw (walk-step volume (listingWay volume) mark blocks refl) (line-short mark blocks h b later (answers volume mark)))
 
 header-fault-most : (volume : List ℕ) → headerFault volume ≤ 6
 unfolding headerFault
 header-fault-most volume = fault-most 6 (headerOrder volume) refl
 
 after-heading-short : (volume : List ℕ) → length volume ≤ listLimit → length (afterHeading volume (headerAnswer volume)) ≤ listLimit - 17
-unfolding afterHeading headerAnswer linesFrom
+unfolding afterHeading headerAnswer
 after-heading-short volume l = go (eqb (headerFault volume) 0) refl
   where
     go : (t : Bool) → eqb (headerFault volume) 0 ≡ t → length (afterHeading volume (headerAnswer volume)) ≤ listLimit - 17
     go true e =
         let whole : 80 ≤ length volume = header-length volume (eqb-true _ _ e) in
-        rw e (omega (arith, lines-short (suc (length volume)) volume (firstMark (sequenceOf volume)) 0 l whole (omega arith)))
+        rw e (omega (arith, lines-short volume l (firstMark (sequenceOf volume)) 0 whole (omega arith)))
     go false e = rw e (omega (arith, refused-line-short (headerFault volume) 0 (omega (arith, header-fault-most volume)) (lit< tt)))
 
 -- no text is longer than the longest volume that is listed
@@ -134,7 +139,7 @@ listing-short volume = go (ltb listLimit (length volume)) refl
     go false e = rw e (omega (arith, after-heading-short volume (ltb-false listLimit (length volume) e)))
 
 -- so a room of that length is never too small
-pub listing-fits : (room : ℕ) (volume : List ℕ) → listLimit ≤ room → listAnswer room volume ≡ Written (length (listing volume))
+pub listing-fits : (room : ℕ) (volume : List ℕ) → listLimit ≤ room → listAnswer room (listing volume) ≡ Written (length (listing volume))
 unfolding listAnswer
 listing-fits room volume h =
     let fits : length (listing volume) ≤ room = omega (arith, listing-short volume) in

@@ -1,5 +1,5 @@
 -- The walk over the blocks: at each bookmark, whoever writes the lines from there on has written all of them. Assumes nothing.
-use Prim.Native.Nat.{ℕ, suc, _+_, _≤_}
+use Prim.Native.Nat.{ℕ, _+_, _≤_}
 use mathlib.Core.Path.{_≡_}
 use mathlib.Core.List.{List}
 use native.Mathlib.Numerals.{add-one}
@@ -9,12 +9,14 @@ use Rattle.volume.specs.Reading.{readAnswer}
 use Rattle.volume.specs.declared.Bookmark.{Bookmark}
 use Rattle.volume.specs.declared.Found.{Found}
 use Rattle.volume.specs.declared.ReadAnswer.{ReadAnswer}
-use Rattle.volume.specs.declared.ReadAnswer.the-variants.{Found as Block}
+use Rattle.volume.specs.declared.ReadAnswer.the-variants as ReadAnswer
+use Rattle.volume.specs.inner.Walk.{onRead}
 use Rattle.volume.proofs.Steps.{read-further}
-use Rattle.listing.specs.Listing.{foundLine, lineOf, linesFrom, listLimit}
-use Rattle.listing.specs.Writing.{Wrote}
+use Rattle.volume.proofs.Walk.{walk-step}
+use Rattle.listing.specs.Listing.{listLimit}
+use Rattle.listing.specs.inner.Text.{foundLine, listingWay, linesFrom}
+use Rattle.listing.specs.inner.Writing.{Wrote}
 use Rattle.listing.proofs.Pieces.{then}
-use Rattle.listing.proofs.Steps.{lines-step}
 
 module _ (volume old : List ℕ) (at : ℕ) (first : Bookmark) where
   -- the room, the bookmark, the number of blocks and the offset in the room, so far
@@ -31,24 +33,24 @@ start volume old at first h = record { few = omega arith; fits = h; onward = λ 
 module _ {volume old : List ℕ} {at : ℕ} {first : Bookmark} {out : List ℕ} {mark : Bookmark} {blocks place : ℕ} where
   -- the lines from here on, by what the reading answers
   pub left-fits : Reached volume old at first out mark blocks place → {a : ReadAnswer} → readAnswer volume mark ≡ a
-      → place + length (lineOf volume mark blocks (λ next. linesFrom volume next (suc blocks)) a) ≤ listLimit
-  left-fits r e = rw (lines-step volume mark blocks e) at (r .fits)
+      → place + length (onRead (listingWay volume) mark blocks (linesFrom volume) a) ≤ listLimit
+  left-fits r e = rw (walk-step volume (listingWay volume) mark blocks e) at (r .fits)
 
   pub left-written : Reached volume old at first out mark blocks place → {a : ReadAnswer} → readAnswer volume mark ≡ a
-      → (new : List ℕ) (answer : ℕ) → Wrote out place (lineOf volume mark blocks (λ next. linesFrom volume next (suc blocks)) a) new answer
+      → (new : List ℕ) (answer : ℕ) → Wrote out place (onRead (listingWay volume) mark blocks (linesFrom volume) a) new answer
       → Wrote old at (linesFrom volume first 0) new answer
-  left-written r e new answer w = r .onward new answer (rw (lines-step volume mark blocks e) w)
+  left-written r e new answer w = r .onward new answer (rw (walk-step volume (listingWay volume) mark blocks e) w)
 
   -- the line of the block at a bookmark, and then the next bookmark
-  pub line-fits : Reached volume old at first out mark blocks place → (found : Found) → readAnswer volume mark ≡ Block found
+  pub line-fits : Reached volume old at first out mark blocks place → (found : Found) → readAnswer volume mark ≡ ReadAnswer.Found found
       → place + length (foundLine volume mark found) ≤ listLimit
-  unfolding lineOf
+  unfolding onRead
   line-fits r found e = omega (arith, simp length-append at (left-fits r e))
 
-  pub passed : Reached volume old at first out mark blocks place → (found : Found) → readAnswer volume mark ≡ Block found
+  pub passed : Reached volume old at first out mark blocks place → (found : Found) → readAnswer volume mark ≡ ReadAnswer.Found found
       → {new : List ℕ} {next : ℕ} → Wrote out place (foundLine volume mark found) new next
       → Reached volume old at first new (found .next) (blocks + 1) next
-  unfolding lineOf
+  unfolding onRead
   passed r found e {new} {next} w =
       rw (add-one blocks)
       (record {

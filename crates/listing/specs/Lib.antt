@@ -1,3 +1,3 @@
 pub mod Decimal
 pub mod Listing
-pub mod Writing
+pub mod inner

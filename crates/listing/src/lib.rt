@@ -17,8 +17,9 @@ ghost use mathlib.Core.Path.{_≡_};
 ghost use Prim.Native.Nat.{_+_, _≤_};
 ghost use lib.ListN.{length};
 ghost use Rattle.number.specs.Number.{put};
-ghost use Rattle.listing.specs.Listing.{listLimit, linesFrom, listing, listAnswer};
-ghost use Rattle.listing.specs.Writing.{Wrote};
+ghost use Rattle.listing.specs.Listing.{listLimit, listAnswer};
+ghost use Rattle.listing.specs.inner.Text.{linesFrom, listing};
+ghost use Rattle.listing.specs.inner.Writing.{Wrote};
 
 // The most bytes that a volume to list may have.
 const LIST_LIMIT: usize = 65536;
@@ -77,7 +78,7 @@ fn put_listing(volume: &[u8], out: &mut [u8]) -> usize
 
 // Writes the listing of a volume to the start of the room and answers its length, or refuses a room that is too small.
 pub fn list(volume: &[u8], out: &mut [u8]) -> ListAnswer
-    ensures answer { λ r. ⌜ r ≡ listAnswer (length (now (out .entry))) (now (volume .entry)) ⌝ }
+    ensures answer { λ r. ⌜ r ≡ listAnswer (length (now (out .entry))) (listing (now (volume .entry))) ⌝ }
     ensures room { λ _. ⌜ now (out .exit) ≡ put (now (out .entry)) 0 (listing (now (volume .entry))) ⌝ }
 {
     // The same walk without room writes nothing: it measures the text.

@@ -5,7 +5,7 @@ ghost use mathlib.Core.List.{[], _∷_, _++_};
 ghost use lib.ListN.{length};
 ghost use Rattle.listing.specs.Decimal.{digit, decimal};
 ghost use Rattle.listing.specs.Listing.{listLimit, blockLine, endLine, refusedLine};
-ghost use Rattle.listing.specs.Writing.{Wrote, lastLine};
+ghost use Rattle.listing.specs.inner.Writing.{Wrote, lastLine};
 
 // Writes bytes as they are.
 pub(crate) fn put_word(out: &mut [u8], at: usize, word: &[u8]) -> usize

@@ -1,8 +1,10 @@
 pub mod Passed
 pub mod Whole
 pub mod Steps
+pub mod Walk
 pub mod HeaderImage
 pub mod OneCall
 pub mod Writers
 pub mod TableLinks
+pub mod Checked
 pub mod Verdicts

@@ -1,6 +1,5 @@
--- One reading at a bookmark goes further in the volume. So the check is one reading and then the check from the next bookmark
--- on: its count never runs out. Assumes nothing.
-use Prim.Native.Nat.{ℕ, zero, suc, _+_, _≤_, _<_}
+-- What one reading at a bookmark answers, and why. A block takes the reader further in the volume. Assumes nothing.
+use Prim.Native.Nat.{ℕ, _≤_, _<_}
 use mathlib.Core.Path.{_≡_, refl}
 use mathlib.Core.Bool.{Bool, true, false, cond}
 use mathlib.Core.List.{List}
@@ -12,12 +11,10 @@ use Rattle.checks.proofs.Laws.{passed}
 use Rattle.refusal.specs.Refusal.{refusalOf}
 use Rattle.block.specs.Shown.{blockAt}
 use Rattle.volume.specs.Reading.{isEnd, readOrder, readFault, nextMark, readAnswer}
-use Rattle.volume.specs.Checking.{judge, scan, checkFrom}
 use Rattle.volume.specs.declared.Bookmark.{Bookmark}
 use Rattle.volume.specs.declared.Found.{Found}
 use Rattle.volume.specs.declared.ReadAnswer.{ReadAnswer}
 use Rattle.volume.specs.declared.ReadAnswer.the-variants.{Found as Block, End, Refused}
-use Rattle.volume.specs.declared.Verdict.{Verdict}
 
 -- the block at a bookmark and the bookmark after it
 abbrev pub foundAt : (volume : List ℕ) → Bookmark → Found
@@ -69,36 +66,3 @@ read-further volume mark found e = go (answers volume mark) e
     go (ends p) q = let z : _≡_ {A = ℕ} 0 1 = cc in absurd (omega arith)
     go (finds p f) q = let s : foundAt volume mark ≡ found = cc in rw (← s) (sound-further volume mark f)
     go (refuses p f) q = let z : _≡_ {A = ℕ} 0 1 = cc in absurd (omega arith)
-
--- what a reading means for the check depends on the bookmarks after this one alone
-judge-same : (volume : List ℕ) (sequence : ℕ) (mark : Bookmark) (blocks : ℕ) (onward other : Bookmark → Verdict)
-    → (readFault volume mark ≡ 0 → onward (nextMark volume mark) ≡ other (nextMark volume mark))
-    → {a : ReadAnswer} → Answers volume mark a → judge sequence mark blocks onward a ≡ judge sequence mark blocks other a
-unfolding judge
-judge-same volume sequence mark blocks onward other same (ends p) = refl
-judge-same volume sequence mark blocks onward other same (finds p f) = same f
-judge-same volume sequence mark blocks onward other same (refuses p f) = refl
-
--- how far the count goes does not matter, if it reaches past the end of the volume
-scan-same : (m n : ℕ) (volume : List ℕ) (sequence : ℕ) (mark : Bookmark) (blocks : ℕ)
-    → length volume < m + mark .offset → length volume < n + mark .offset → 0 < m → 0 < n
-    → scan m volume sequence mark blocks ≡ scan n volume sequence mark blocks
-unfolding scan
-scan-same zero n volume sequence mark blocks p q s t = absurd (omega arith)
-scan-same (suc m) zero volume sequence mark blocks p q s t = absurd (omega arith)
-scan-same (suc m) (suc n) volume sequence mark blocks p q s t =
-    judge-same volume sequence mark blocks
-    (λ next. scan m volume sequence next (suc blocks)) (λ next. scan n volume sequence next (suc blocks))
-    (λ f.
-    let h = sound-further volume mark f in
-    scan-same m n volume sequence (nextMark volume mark) (suc blocks) (omega arith) (omega arith) (omega arith) (omega arith))
-    (answers volume mark)
-
--- the check from a bookmark on: one reading, and then the check from the next bookmark on
-pub check-step : (volume : List ℕ) (sequence : ℕ) (mark : Bookmark) (blocks : ℕ)
-    → checkFrom volume sequence mark blocks
-    ≡ judge sequence mark blocks (λ next. checkFrom volume sequence next (suc blocks)) (readAnswer volume mark)
-unfolding checkFrom scan
-check-step volume sequence mark blocks =
-    scan-same (suc (length volume)) (suc (suc (length volume))) volume sequence mark blocks
-    (omega arith) (omega arith) (omega arith) (omega arith)

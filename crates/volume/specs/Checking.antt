@@ -1,38 +1,50 @@
--- What the whole-volume check answers: the header, and then block after block until "end" or a refusal.
-use Prim.Native.Nat.{ℕ, zero, suc}
+-- What the whole-volume check answers: "accepted, sequence number, number of blocks after the header (table included) and the end
+-- bookmark; or refused, number, offset of the header or block at fault, and the number of blocks accepted before it".
+--
+-- A volume has exactly one such verdict (proofs/Checked.antt), and check answers it.
+use Prim.Native.Nat.{ℕ, suc}
+use mathlib.Core.Path.{_≡_}
 use mathlib.Core.List.{List}
-use lib.ListN.{length}
-use Rattle.refusal.specs.Refusal.{refusalOf}
+use Rattle.refusal.specs.declared.Refusal.{Refusal}
 use Rattle.volume.specs.Heading.{headerAnswer}
 use Rattle.volume.specs.Reading.{readAnswer}
 use Rattle.volume.specs.declared.Bookmark.{Bookmark}
-use Rattle.volume.specs.declared.HeaderAnswer.{HeaderAnswer}
-use Rattle.volume.specs.declared.HeaderAnswer.the-variants.{Accepted as Sound, Refused as Unsound}
-use Rattle.volume.specs.declared.ReadAnswer.{ReadAnswer}
-use Rattle.volume.specs.declared.ReadAnswer.the-variants.{Found, End, Refused as Unread}
+use Rattle.volume.specs.declared.Header.{Header as VolumeHeader}
+use Rattle.volume.specs.declared.Found.{Found}
+use Rattle.volume.specs.declared.HeaderAnswer.the-variants as HeaderAnswer
+use Rattle.volume.specs.declared.ReadAnswer.the-variants as ReadAnswer
 use Rattle.volume.specs.declared.Verdict.{Verdict}
-use Rattle.volume.specs.declared.Verdict.the-variants.{Accepted, Refused}
+use Rattle.volume.specs.declared.Verdict.the-variants as Verdict
 
--- what one reading at a bookmark means for the check, after so many blocks: "end" accepts, a refusal refuses here,
--- and after a block the check goes on from the next bookmark
-unfoldable pub judge : (sequence : ℕ) → Bookmark → (blocks : ℕ) → (onward : Bookmark → Verdict) → ReadAnswer → Verdict
-judge sequence mark blocks onward End = Accepted (record { sequence = sequence; blocks = blocks; end = mark })
-judge sequence mark blocks onward (Found found) = onward (found .next)
-judge sequence mark blocks onward (Unread r) = Refused (record { refusal = r; offset = mark .offset; blocks = blocks })
+-- From a bookmark on, with so many blocks accepted before it.
+pub data CheckedFrom (volume : List ℕ) (sequence : ℕ) : Bookmark → (blocks : ℕ) → Verdict → Type 0 where
+  -- "end" accepts: this is the end bookmark
+  accepted-at-the-end :
+      {mark : Bookmark} {blocks : ℕ}
+      → readAnswer volume mark ≡ ReadAnswer.End
+      → CheckedFrom volume sequence mark blocks (Verdict.Accepted (record { sequence = sequence; blocks = blocks; end = mark }))
+  -- a block at fault refuses the volume, at the block's offset
+  refused-at-a-block :
+      {mark : Bookmark} {blocks : ℕ} {refusal : Refusal}
+      → readAnswer volume mark ≡ ReadAnswer.Refused refusal
+      → CheckedFrom volume sequence mark blocks (Verdict.Refused (record { refusal = refusal; offset = mark .offset; blocks = blocks }))
+  -- after a block the check goes on from the next bookmark, with one block more
+  after-a-block :
+      {mark : Bookmark} {blocks : ℕ} {found : Found} {answer : Verdict}
+      → readAnswer volume mark ≡ ReadAnswer.Found found
+      → CheckedFrom volume sequence (found .next) (suc blocks) answer
+      → CheckedFrom volume sequence mark blocks answer
 
--- block after block. The first number counts down and is never used up: each block takes at least one byte
-unfoldable pub scan : (fuel : ℕ) (volume : List ℕ) (sequence : ℕ) → Bookmark → (blocks : ℕ) → Verdict
-scan zero volume sequence mark blocks = Refused (record { refusal = refusalOf 0; offset = 0; blocks = blocks })
-scan (suc fuel) volume sequence mark blocks =
-    judge sequence mark blocks (λ next. scan fuel volume sequence next (suc blocks)) (readAnswer volume mark)
-
--- the check from a bookmark on
-unfoldable pub checkFrom : (volume : List ℕ) (sequence : ℕ) → Bookmark → (blocks : ℕ) → Verdict
-checkFrom volume sequence mark blocks = scan (suc (length volume)) volume sequence mark blocks
-
-unfoldable pub afterHeader : (volume : List ℕ) → HeaderAnswer → Verdict
-afterHeader volume (Sound header) = checkFrom volume (header .sequence) (header .next) 0
-afterHeader volume (Unsound r) = Refused (record { refusal = r; offset = 0; blocks = 0 })
-
-unfoldable pub checkAnswer : (volume : List ℕ) → Verdict
-checkAnswer volume = afterHeader volume (headerAnswer volume)
+-- The verdict of a volume.
+pub data Checked (volume : List ℕ) : Verdict → Type 0 where
+  -- a header at fault refuses the volume, at 0
+  refused-at-the-header :
+      {refusal : Refusal}
+      → headerAnswer volume ≡ HeaderAnswer.Refused refusal
+      → Checked volume (Verdict.Refused (record { refusal = refusal; offset = 0; blocks = 0 }))
+  -- block after block from the header's bookmark on
+  after-the-header :
+      {header : VolumeHeader} {answer : Verdict}
+      → headerAnswer volume ≡ HeaderAnswer.Accepted header
+      → CheckedFrom volume (header .sequence) (header .next) 0 answer
+      → Checked volume answer

@@ -7,7 +7,7 @@ use crate::Rejected;
 use crate::Verdict;
 use crate::heading::read_header;
 ghost use mathlib.Core.Path.{_≡_};
-ghost use Rattle.volume.specs.Checking.{checkFrom, checkAnswer};
+ghost use Rattle.volume.specs.inner.Check.{checkFrom, checkAnswer};
 
 // The check from a bookmark on, with no block passed yet.
 fn check_from(volume: &[u8], sequence: u64, first: Bookmark) -> Verdict

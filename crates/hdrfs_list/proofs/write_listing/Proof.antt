@@ -9,14 +9,15 @@ use Rattle.io.specs.Counts.{Counts}
 use Rattle.number.specs.Number.{put}
 use Rattle.number.proofs.Put.{length-put, part-put}
 use Rattle.refusal.specs.declared.Refusal.{Refusal}
-use Rattle.listing.specs.Listing.{listLimit, listing, listAnswer}
+use Rattle.listing.specs.Listing.{listLimit, listAnswer}
+use Rattle.listing.specs.inner.Text.{listing}
 use Rattle.listing.specs.declared.ListAnswer.the-variants.{Written, Refused}
 use Rattle.listing.proofs.Room.{listing-short, listing-fits}
 use Rattle.hdrfs_list.proofs.write_listing.Statement.{statement}
 use Rattle.hdrfs_list.proofs.write_listing.Tie as tie
 
 module _ (volume old : List ℕ) (long : listLimit ≤ length old) where
-  written : (new : List ℕ) (len : ℕ) → new ≡ put old 0 (listing volume) → Written len ≡ listAnswer (length old) volume
+  written : (new : List ℕ) (len : ℕ) → new ≡ put old 0 (listing volume) → Written len ≡ listAnswer (length old) (listing volume)
       → Counts len new × (take len new ≡ listing volume)
   written new len e a =
       let same : len ≡ length (listing volume) = cc (listing-fits (length old) volume long) in
@@ -24,7 +25,7 @@ module _ (volume old : List ℕ) (long : listLimit ≤ length old) where
       let text : take len new ≡ listing volume = rw (same, e) (part-put old 0 (listing volume) fits) in
       ((omega (arith, listing-short volume, ap length e, length-put old 0 (listing volume)), same ∙ sym (ap length text)), text)
 
-  not-refused : (why : Refusal) → Refused why ≡ listAnswer (length old) volume → ⊥
+  not-refused : (why : Refusal) → Refused why ≡ listAnswer (length old) (listing volume) → ⊥
   not-refused why a = let z : _≡_ {A = ℕ} 0 1 = cc (listing-fits (length old) volume long) in omega arith
 
 list-requires : tie.Need-list-requires

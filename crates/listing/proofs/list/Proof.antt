@@ -9,15 +9,16 @@ use Rattle.number.specs.Number.{put}
 use Rattle.number.proofs.Put.{put-past}
 use Rattle.refusal.specs.Refusal.{refusalOf}
 use Rattle.listing.specs.declared.ListAnswer.the-variants.{Written, Refused}
-use Rattle.listing.specs.Listing.{listing, listAnswer}
-use Rattle.listing.specs.Writing.{Wrote}
+use Rattle.listing.specs.Listing.{listAnswer}
+use Rattle.listing.specs.inner.Text.{listing}
+use Rattle.listing.specs.inner.Writing.{Wrote}
 use borrow.Author.Needs.{needs}
 use Rattle.listing.proofs.list.Statement.{statement}
 use Rattle.listing.proofs.list.Tie as tie
 
 -- the two answers, after a first walk over no room
 too-small : (volume out : List ℕ) {none : List ℕ} {len : ℕ} → Wrote [] 0 (listing volume) none len → length (none ++ out) < len
-    → (Refused (refusalOf 17) ≡ listAnswer (length out) volume) × (none ++ out ≡ put out 0 (listing volume))
+    → (Refused (refusalOf 17) ≡ listAnswer (length out) (listing volume)) × (none ++ out ≡ put out 0 (listing volume))
 unfolding listAnswer
 too-small volume out {none = []} w h =
     let short : length out < length (listing volume) = omega (arith, w .after) in
@@ -26,7 +27,7 @@ too-small volume out {none = byte ∷ rest} w h = absurd (omega (arith, w .room)
 
 written : (volume out : List ℕ) {none new : List ℕ} {len answer : ℕ} → Wrote [] 0 (listing volume) none len → len ≤ length (none ++ out)
     → Wrote (none ++ out) 0 (listing volume) new answer
-    → (Written len ≡ listAnswer (length out) volume) × (new ≡ put out 0 (listing volume))
+    → (Written len ≡ listAnswer (length out) (listing volume)) × (new ≡ put out 0 (listing volume))
 unfolding listAnswer
 written volume out {none = []} {len = len} w h v =
     let room : length (listing volume) ≤ length out = omega (arith, w .after) in

@@ -5,9 +5,9 @@ use native.Mathlib.Omega.{arith}
 use lib.ListN.{length}
 use borrow.Author.Needs.{needs}
 use Rattle.volume.specs.Reading.{readAnswer}
-use Rattle.volume.specs.declared.ReadAnswer.the-variants.{Found}
+use Rattle.volume.specs.declared.ReadAnswer.the-variants as ReadAnswer
+use Rattle.volume.specs.inner.Walk.{onRead}
 use Rattle.volume.proofs.Steps.{read-further}
-use Rattle.listing.specs.Listing.{lineOf}
 use Rattle.listing.proofs.Walk.{Reached, start, left-fits, left-written, line-fits, passed}
 use Rattle.listing.proofs.put_lines.Statement.{statement}
 use Rattle.listing.proofs.put_lines.Tie as tie
@@ -31,7 +31,7 @@ enum-known-found c = search needs
 
 -- the reading found a block, and the next bookmark is further on and within the volume
 found : (c : tie.After-found Inv-loop μ-loop)
-    → readAnswer (c .before .before .before .before .before .before .args .volume .now) (c .before .before .before .loop .mark) ≡ Found (c .found .given .0 .0)
+    → readAnswer (c .before .before .before .before .before .before .args .volume .now) (c .before .before .before .loop .mark) ≡ ReadAnswer.Found (c .found .given .0 .0)
 found c = sym (c .before .before .read .ensures) ∙ c .found .given .1
 
 further : (c : tie.After-found Inv-loop μ-loop)
@@ -66,11 +66,11 @@ enum-told : tie.Need-enum-told Inv-loop μ-loop
 enum-told c = search needs
 
 end-line-requires : tie.Need-end-line-requires Inv-loop μ-loop
-unfolding lineOf
+unfolding onRead
 end-line-requires c κs = left-fits (c .before .before .before .before .loop .inv) (sym (c .before .before .before .read .ensures) ∙ c .before .enum-told .given .1)
 
 returns : tie.Need-returns Inv-loop μ-loop
-unfolding lineOf
+unfolding onRead
 returns c =
     left-written (c .before .before .before .before .before .before .before .loop .inv) (sym (c .before .before .before .before .before .before .read .ensures) ∙ c .before .before .before .before .enum-told .given .1) _ _
     (c .before .before .end-line .ensures)
@@ -82,11 +82,11 @@ enum-known-why : tie.Need-enum-known-why Inv-loop μ-loop
 enum-known-why c = search needs
 
 refused-line-requires : tie.Need-refused-line-requires Inv-loop μ-loop
-unfolding lineOf
+unfolding onRead
 refused-line-requires c κs = left-fits (c .before .before .before .before .before .loop .inv) (sym (c .before .before .before .before .read .ensures) ∙ c .before .before .why .given .1)
 
 returns-2 : tie.Need-returns-2 Inv-loop μ-loop
-unfolding lineOf
+unfolding onRead
 returns-2 c =
     left-written (c .before .before .before .before .before .before .before .before .loop .inv) (sym (c .before .before .before .before .before .before .before .read .ensures) ∙ c .before .before .before .before .before .why .given .1) _ _
     (c .before .before .refused-line .ensures)

@@ -8,8 +8,9 @@ use borrow.Author.Needs.{needs}
 use borrow.Author.Tests.{lt-ltb, le-ltb}
 use Rattle.volume.specs.Heading.{headerAnswer}
 use Rattle.volume.specs.declared.HeaderAnswer.{HeaderAnswer}
-use Rattle.listing.specs.Listing.{headingLine, refusedLine, linesFrom, afterHeading, listLimit, listing}
-use Rattle.listing.specs.Writing.{Wrote}
+use Rattle.listing.specs.Listing.{headingLine, refusedLine, listLimit}
+use Rattle.listing.specs.inner.Text.{linesFrom, afterHeading, listing}
+use Rattle.listing.specs.inner.Writing.{Wrote}
 use Rattle.listing.proofs.Pieces.{then}
 use Rattle.listing.proofs.Room.{listing-short}
 use Rattle.listing.proofs.put_listing.Statement.{statement}

@@ -1,6 +1,6 @@
 -- The header decides first; a sound one is followed by the check of the blocks.
 use mathlib.Core.Path.{sym, ap, _∙_}
-use Rattle.volume.specs.Checking.{afterHeader, checkAnswer}
+use Rattle.volume.specs.inner.Check.{afterHeader, checkAnswer}
 use borrow.Author.Needs.{needs}
 use Rattle.volume.proofs.checking.check.Statement.{statement}
 use Rattle.volume.proofs.checking.check.Tie as tie

@@ -1,25 +1,17 @@
 -- What is left to check is the check from the bookmark reached, after the blocks passed. Each block takes at least a byte, so
 -- the blocks passed are no more than the offset.
-use Prim.Native.Nat.{ℕ, suc, _-_, _≤_, _<_}
+use Prim.Native.Nat.{_-_, _≤_, _<_}
 use native.Mathlib.Numerals.{add-one}
 use native.Mathlib.Omega.{arith}
-use mathlib.Core.Path.{_≡_, refl, sym, ap, _∙_}
-use mathlib.Core.List.{List}
+use mathlib.Core.Path.{_≡_, refl, sym, _∙_}
 use lib.ListN.{length}
 use borrow.Author.Needs.{needs}
-use Rattle.volume.specs.Reading.{readAnswer}
-use Rattle.volume.specs.Checking.{judge, checkFrom}
-use Rattle.volume.specs.declared.Bookmark.{Bookmark}
-use Rattle.volume.specs.declared.ReadAnswer.{ReadAnswer}
-use Rattle.volume.proofs.Steps.{read-further, check-step}
+use Rattle.volume.specs.inner.Walk.{onRead}
+use Rattle.volume.specs.inner.Check.{checkWay, checkFrom}
+use Rattle.volume.proofs.Steps.{read-further}
+use Rattle.volume.proofs.Walk.{walk-step}
 use Rattle.volume.proofs.checking.check_from.Statement.{statement}
 use Rattle.volume.proofs.checking.check_from.Tie as tie
-
--- one turn: what was read decides, or the check goes on
-turn : (volume : List ℕ) (sequence : ℕ) (mark : Bookmark) (blocks : ℕ) (read answer : ReadAnswer) → read ≡ readAnswer volume mark → read ≡ answer
-    → checkFrom volume sequence mark blocks ≡ judge sequence mark blocks (λ next. checkFrom volume sequence next (suc blocks)) answer
-turn volume sequence mark blocks read answer e f =
-    check-step volume sequence mark blocks ∙ ap (judge sequence mark blocks (λ next. checkFrom volume sequence next (suc blocks))) (sym e ∙ f)
 
 abbrev Inv-loop : tie.InvT-loop
 Inv-loop volume sequence mark₀ blocks₀ mark blocks =
@@ -38,21 +30,21 @@ enum-told : tie.Need-enum-told Inv-loop μ-loop
 enum-told c = search needs
 
 returns : tie.Need-returns Inv-loop μ-loop
-unfolding judge
+unfolding onRead
 returns c =
     let r = c .before .before in
     let l = r .before in
-    sym (l .loop .inv .1 ∙ turn _ _ _ _ _ _ (r .read .ensures) (c .enum-told .given .1))
+    sym (l .loop .inv .1 ∙ walk-step _ (checkWay _) _ _ (sym (r .read .ensures) ∙ c .enum-told .given .1))
 
 enum-known-refusal : tie.Need-enum-known-refusal Inv-loop μ-loop
 enum-known-refusal c = search needs
 
 returns-2 : tie.Need-returns-2 Inv-loop μ-loop
-unfolding judge
+unfolding onRead
 returns-2 c =
     let r = c .before .before .before in
     let l = r .before in
-    sym (l .loop .inv .1 ∙ turn _ _ _ _ _ _ (r .read .ensures) (c .before .refusal .given .1))
+    sym (l .loop .inv .1 ∙ walk-step _ (checkWay _) _ _ (sym (r .read .ensures) ∙ c .before .refusal .given .1))
 
 enum-known-found : tie.Need-enum-known-found Inv-loop μ-loop
 enum-known-found c = search needs
@@ -71,11 +63,11 @@ loop-less : tie.Need-loop-less Inv-loop μ-loop
 loop-less c = omega (arith, further c)
 
 loop-again : tie.Need-loop-again Inv-loop μ-loop
-unfolding judge
+unfolding onRead
 loop-again c =
     let r = c .before .before .before .before in
     let l = r .before in
-    (omega (arith, further c), l .loop .inv .1 ∙ turn _ _ _ _ _ _ (r .read .ensures) (c .before .before .found .given .1) ∙ rw add-one)
+    (omega (arith, further c), l .loop .inv .1 ∙ walk-step _ (checkWay _) _ _ (sym (r .read .ensures) ∙ c .before .before .found .given .1) ∙ rw add-one)
 
 pub check-from-spec : {M : Type 1} → statement M
 check-from-spec =

@@ -1,4 +1,4 @@
--- What the writers of pieces of the text do. Only contracts of functions inside this crate cite this.
+-- Inner page: what the writers of pieces of the text do.
 use Prim.Native.Nat.{ℕ, _+_, _≤_}
 use mathlib.Core.Path.{_≡_}
 use mathlib.Core.List.{List, _++_}

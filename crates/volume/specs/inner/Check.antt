@@ -1,0 +1,29 @@
+-- Inner page: the whole-volume check, computed. It is the verdict that `Checked` says, and no other (proofs/Checked.antt).
+use Prim.Native.Nat.{ℕ, suc}
+use mathlib.Core.List.{List}
+use Rattle.volume.specs.Heading.{headerAnswer}
+use Rattle.volume.specs.declared.Bookmark.{Bookmark}
+use Rattle.volume.specs.declared.HeaderAnswer.{HeaderAnswer}
+use Rattle.volume.specs.declared.HeaderAnswer.the-variants as HeaderAnswer
+use Rattle.volume.specs.declared.Verdict.{Verdict}
+use Rattle.volume.specs.declared.Verdict.the-variants as Verdict
+use Rattle.volume.specs.inner.Walk.{Way, walkFrom}
+
+-- the walk keeps the number of blocks
+abbrev pub checkWay : (sequence : ℕ) → Way ℕ Verdict
+checkWay sequence =
+    record {
+      atBlock = λ mark found blocks onward. onward (suc blocks);
+      atEnd = λ mark blocks. Verdict.Accepted (record { sequence = sequence; blocks = blocks; end = mark });
+      atRefusal = λ mark refusal blocks. Verdict.Refused (record { refusal = refusal; offset = mark .offset; blocks = blocks });
+    }
+
+abbrev pub checkFrom : (volume : List ℕ) (sequence : ℕ) → Bookmark → (blocks : ℕ) → Verdict
+checkFrom volume sequence mark blocks = walkFrom volume (checkWay sequence) mark blocks
+
+unfoldable pub afterHeader : (volume : List ℕ) → HeaderAnswer → Verdict
+afterHeader volume (HeaderAnswer.Accepted header) = checkFrom volume (header .sequence) (header .next) 0
+afterHeader volume (HeaderAnswer.Refused refusal) = Verdict.Refused (record { refusal = refusal; offset = 0; blocks = 0 })
+
+unfoldable pub checkAnswer : (volume : List ℕ) → Verdict
+checkAnswer volume = afterHeader volume (headerAnswer volume)
