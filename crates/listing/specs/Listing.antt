@@ -1,47 +1,27 @@
 -- The listing of a volume: the forms of its lines, and what `list` answers. Which lines a volume has, claims/specs/Listed.antt says.
 use Prim.Native.Nat.{ℕ}
 use mathlib.Core.Bool.{cond}
-use mathlib.Core.List.{List, [], _∷_, _++_}
+use mathlib.Core.List.{List, _++_}
 use lib.Dec.{leb}
 use lib.ListN.{length}
+use Rattle.number.specs.Ascii.{ascii}
 use Rattle.refusal.specs.Refusal.{refusalOf}
 use Rattle.listing.specs.declared.ListAnswer.{ListAnswer}
 use Rattle.listing.specs.declared.ListAnswer.the-variants.{Written, Refused}
 use Rattle.listing.specs.Decimal.{decimal}
 
--- the words of the text, in ASCII: "offset id length", "end ", " blocks ", "refused ", " at ", each line with a newline
 abbrev pub headingLine : List ℕ
-headingLine = 111 ∷ 102 ∷ 102 ∷ 115 ∷ 101 ∷ 116 ∷ 32 ∷ 105 ∷ 100 ∷ 32 ∷ 108 ∷ 101 ∷ 110 ∷ 103 ∷ 116 ∷ 104 ∷ 10 ∷ []
+headingLine = ascii "offset id length\n"
 
-abbrev pub endWord : List ℕ
-endWord = 101 ∷ 110 ∷ 100 ∷ 32 ∷ []
-
-abbrev pub blocksWord : List ℕ
-blocksWord = 32 ∷ 98 ∷ 108 ∷ 111 ∷ 99 ∷ 107 ∷ 115 ∷ 32 ∷ []
-
-abbrev pub refusedWord : List ℕ
-refusedWord = 114 ∷ 101 ∷ 102 ∷ 117 ∷ 115 ∷ 101 ∷ 100 ∷ 32 ∷ []
-
-abbrev pub atWord : List ℕ
-atWord = 32 ∷ 97 ∷ 116 ∷ 32 ∷ []
-
-abbrev pub space : List ℕ
-space = 32 ∷ []
-
-abbrev pub newline : List ℕ
-newline = 10 ∷ []
-
--- OFFSET ID LENGTH, the length of the block's image
+-- the length is that of the block's image
 unfoldable pub blockLine : (offset id len : ℕ) → List ℕ
-blockLine offset id len = decimal offset ++ (space ++ (decimal id ++ (space ++ (decimal len ++ newline))))
+blockLine offset id len = decimal offset ++ (ascii " " ++ (decimal id ++ (ascii " " ++ (decimal len ++ ascii "\n"))))
 
--- end OFFSET blocks N
 unfoldable pub endLine : (offset blocks : ℕ) → List ℕ
-endLine offset blocks = endWord ++ (decimal offset ++ (blocksWord ++ (decimal blocks ++ newline)))
+endLine offset blocks = ascii "end " ++ (decimal offset ++ (ascii " blocks " ++ (decimal blocks ++ ascii "\n")))
 
--- refused NUMBER at OFFSET
 unfoldable pub refusedLine : (number offset : ℕ) → List ℕ
-refusedLine number offset = refusedWord ++ (decimal number ++ (atWord ++ (decimal offset ++ newline)))
+refusedLine number offset = ascii "refused " ++ (decimal number ++ (ascii " at " ++ (decimal offset ++ ascii "\n")))
 
 -- the most bytes that a volume to list may have
 abbrev pub listLimit : ℕ
