@@ -11,6 +11,7 @@ pub mod Demand3
 pub mod File
 pub mod Ranges
 pub mod Demand2
+pub mod WalkOver
 pub mod Listed
 pub mod Fetching
 pub mod Samples
