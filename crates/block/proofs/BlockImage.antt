@@ -8,12 +8,11 @@ use native.Mathlib.Numerals.{add-one}
 use native.Mathlib.Omega.{arith}
 use lib.ListN.{length, drop, getD, length-append, length-drop}
 use lib.Seq.{drop-cons}
-use borrow.Author.Tests.{ltb-false, eqb-true, not-false, le-ltb}
+use borrow.Author.Tests.{eqb-true, not-false}
 use Rattle.number.specs.Number.{Bytes, le, leBytes, part, numberAt}
 use Rattle.number.proofs.Halves.{read-one}
 use Rattle.number.proofs.Parts.{length-part, bytes-part, part-add, part-at, drop-past}
-use Rattle.checks.specs.Checks.{firstFault, clear, miss}
-use Rattle.checks.proofs.Laws.{passed, decided}
+use Rattle.checks.specs.Checks.{firstFault}
 use Rattle.checks.proofs.Tests.{eq-neb}
 use Rattle.crc32.specs.Crc.{crc}
 use Rattle.format.specs.Layout.{total, laid, sealed}
@@ -21,13 +20,14 @@ use Rattle.format.specs.Blocks.{Kind, idOf, widths, Block, kindOf, fields, body
 use Rattle.format.specs.Readings.{timeOf}
 use Rattle.format.proofs.Fields.{length-laid}
 use Rattle.format.proofs.Seal.{length-sealed, seal-part, part-sealed}
-use Rattle.block.specs.Fields.{idAt, before, bodyLength, bodyEnd}
-use Rattle.block.specs.Order.{sumWrong, checksumWrong, kindOrder}
+use Rattle.block.specs.Fields.{idAt, fixedLength, bodyLength, bodyEnd}
+use Rattle.block.specs.Order.{checksumWrong, kindOrder}
 use Rattle.block.specs.Shown.{blockOf, shown, timeOfBlock}
 use Rattle.block.specs.declared.Block.{Block as Decoded}
 use Rattle.block.specs.declared.Block.the-variants.{Inode, Link, Unlink, Xattr, RemovedXattr, Data, Rename, Table}
 use Rattle.block.proofs.Standing.{fieldsAt, bodyAt, fields-fit, fields-laid, fields-stand}
-use Rattle.block.proofs.KindSound.{Shows, shows, Passes, kind-rules}
+use Rattle.block.proofs.Passed.{KindPassed, kind-passed, passed-kind}
+use Rattle.block.proofs.KindSound.{Shows, shows, kind-rules}
 use Rattle.block.proofs.KindComplete.{Accepts, accepts}
 
 -- The CRC check, by how many bytes the CRC covers.
@@ -36,12 +36,12 @@ module _ (volume : List ℕ) (offset len end : ℕ) (e : end ≡ offset + len) w
   covers : end - offset ≡ len
   covers = omega arith
 
-  sum-right : sumWrong volume offset end ≡ false → numberAt volume (offset + len) 4 ≡ crc (part volume offset len)
-  unfolding sumWrong
+  sum-right : checksumWrong volume offset end ≡ false → numberAt volume (offset + len) 4 ≡ crc (part volume offset len)
+  unfolding checksumWrong
   sum-right s = rw (covers, e) at (eqb-true (numberAt volume end 4) (crc (part volume offset (end - offset))) (not-false _ s))
 
-  right-sum : numberAt volume (offset + len) 4 ≡ crc (part volume offset len) → sumWrong volume offset end ≡ false
-  unfolding sumWrong
+  right-sum : numberAt volume (offset + len) 4 ≡ crc (part volume offset len) → checksumWrong volume offset end ≡ false
+  unfolding checksumWrong
   right-sum s = rw (covers, e) (eq-neb (numberAt volume (offset + len) 4) (crc (part volume offset len)) s)
 
 -- From the checks to the image.
@@ -56,13 +56,13 @@ module _ (kind : Kind) (volume : List ℕ) (offset : ℕ) (block : Block) (s : S
   shown-keeps b r =
       record {
         fit = rw (s .same-kind, s .same-fields) (fields-fit kind volume offset b);
-        bytes = rw (s .same-body) (bytes-part volume (offset + before kind) (bodyLength kind volume offset) b);
+        bytes = rw (s .same-body) (bytes-part volume (offset + fixedLength kind) (bodyLength kind volume offset) b);
         rules = r;
       }
 
 -- how many bytes of a block stand before its CRC
 abbrev covered : Kind → (volume : List ℕ) (offset : ℕ) → ℕ
-covered kind volume offset = before kind + bodyLength kind volume offset
+covered kind volume offset = fixedLength kind + bodyLength kind volume offset
 
 -- the block of a kind stands at an offset
 pub record Stands (kind : Kind) (volume : List ℕ) (offset : ℕ) (block : Block) : Type 0 where
@@ -74,7 +74,7 @@ pub record Stands (kind : Kind) (volume : List ℕ) (offset : ℕ) (block : Bloc
 
 module _ (kind : Kind) (volume : List ℕ) (offset : ℕ) (b : Bytes volume) (id : idAt volume offset ≡ idOf kind) where
   -- the bytes before the CRC, by the layout
-  content : offset + before kind ≤ length volume
+  content : offset + fixedLength kind ≤ length volume
       → part volume offset (covered kind volume offset)
       ≡ idOf kind ∷ laid (widths kind) (fieldsAt kind volume offset) ++ bodyAt kind volume offset
   content h =
@@ -88,27 +88,19 @@ module _ (kind : Kind) (volume : List ℕ) (offset : ℕ) (b : Bytes volume) (id
 
   pub block-sound : firstFault (kindOrder kind volume offset) ≡ 0 → Stands kind volume offset (shown volume (blockOf kind volume offset))
   block-sound e =
-      let order = kindOrder kind volume offset in
       let n : ℕ = covered kind volume offset in
       let block : Block = shown volume (blockOf kind volume offset) in
-      let whole : bodyEnd kind volume offset + 4 ≤ length volume = ltb-false _ _ (passed 2 order tt e) in
+      let p : KindPassed kind volume offset = kind-passed volume offset kind e in
+      let whole : bodyEnd kind volume offset + 4 ≤ length volume = p .whole in
       let within : bodyEnd kind volume offset ≤ length volume = omega arith in
-      let s : Shows kind volume offset block = shows kind volume offset b within in
-      let sum = sum-right volume offset n (bodyEnd kind volume offset) (omega arith) (passed 3 order tt e) in
+      let s : Shows kind volume offset block = shows kind volume offset within in
+      let sum = sum-right volume offset n (bodyEnd kind volume offset) (omega arith) (p .sum) in
       let same : part volume offset (n + 4) ≡ image block
-      = sym (seal-part volume offset n b (omega arith) sum) ∙ ap sealed (content (omega arith)) ∙ sym (shown-image kind volume offset block s) in
+      = sym (seal-part volume offset n b (omega arith) sum) ∙ ap sealed (content (p .fixed-fields)) ∙ sym (shown-image kind volume offset block s) in
       let len : length (image block) ≡ n + 4 = ap length (sym same) ∙ length-part volume offset (n + 4) (omega arith) in
-      let tests : Passes kind volume offset
-      = record {
-        few = passed 1 order tt e;
-        texts = passed 4 order tt e;
-        sound = passed 5 order tt e;
-        apart = passed 6 order tt e;
-        once = passed 7 order tt e;
-      } in
       record {
         same-kind = s .same-kind;
-        keeps = shown-keeps kind volume offset block s b (kind-rules kind volume offset b within tests);
+        keeps = shown-keeps kind volume offset block s b (kind-rules kind volume offset b within (p .own));
         end = rw len (omega arith);
         whole = rw len (omega arith);
         same = rw len same;
@@ -117,7 +109,7 @@ module _ (kind : Kind) (volume : List ℕ) (offset : ℕ) (b : Bytes volume) (id
 -- From the image to the checks.
 
 -- an image is as long as its fixed fields, its variable parts and its CRC
-pub length-image : (block : Block) → BlockRules block → length (image block) ≡ before (kindOf block) + length (body block) + 4
+pub length-image : (block : Block) → BlockRules block → length (image block) ≡ fixedLength (kindOf block) + length (body block) + 4
 unfolding image
 length-image block keeps =
     let fixed : List ℕ = laid (widths (kindOf block)) (fields block) in
@@ -150,7 +142,7 @@ module _ (block : Block) (volume : List ℕ) (offset : ℕ) (rest : List ℕ) (k
       = rw (add-one offset) at (drop-past volume (idOf kind ∷ []) (fixed ++ (body block ++ after)) offset 1 d0 refl) in
       let d2 : drop (suc offset + t) volume ≡ body block ++ after
       = drop-past volume fixed (body block ++ after) (suc offset) t d1 (length-laid (widths kind) (fields block) (keeps .fit)) in
-      let next : suc offset + t ≡ offset + before kind = omega arith in
+      let next : suc offset + t ≡ offset + fixedLength kind = omega arith in
       let values = fields-stand kind volume offset (fields block) (body block ++ after) (keeps .fit) d1 in (
         ap le (part-at volume (idOf kind ∷ []) (fixed ++ (body block ++ after)) offset 1 d0 refl) ∙ omega arith,
         values,
@@ -164,29 +156,16 @@ module _ (block : Block) (volume : List ℕ) (offset : ℕ) (rest : List ℕ) (k
       let bytes : List ℕ = idOf kind ∷ laid (widths kind) (fields block) ++ body block in
       let p : Accepts volume offset block = parts-stand .2 in
       let n : bodyLength kind volume offset ≡ length (body block) = p .body-length in
-      let i : length (image block) ≡ before kind + length (body block) + 4 = length-image block keeps in
+      let i : length (image block) ≡ fixedLength kind + length (body block) + 4 = length-image block keeps in
       let c : length (image block) ≡ length bytes + 4 = length-sealed bytes in
       let l : length volume - offset ≡ length (image block) + length rest
       = sym (length-drop offset volume) ∙ ap length e ∙ length-append (image block) rest in
-      let sum : checksumWrong kind volume offset ≡ false
+      let sum : checksumWrong volume offset (bodyEnd kind volume offset) ≡ false
       = right-sum volume offset (length bytes) (bodyEnd kind volume offset) (omega arith)
       (part-sealed volume bytes rest offset (length bytes) e refl) in
-      let t : Passes kind volume offset = p .tests in
       record {
         id = parts-stand .0;
-        no-fault =
-            sym (
-            decided (
-            miss (le-ltb (length volume) (offset + before kind) (omega arith))
-            (miss (t .few)
-            (miss (le-ltb (length volume) (bodyEnd kind volume offset + 4) (omega arith))
-            (miss sum
-            (miss (t .texts)
-            (miss (t .sound)
-            (miss (t .apart)
-            (miss (t .once) clear)))))))
-            )
-            );
+        no-fault = passed-kind volume offset kind (record { fixed-fields = omega arith; whole = omega arith; sum = sum; own = p .own });
         values = parts-stand .1;
         body-length = n;
         same = p .same;

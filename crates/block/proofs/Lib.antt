@@ -1,6 +1,6 @@
 pub mod Faults
-pub mod Passed
 pub mod Places
+pub mod Passed
 pub mod Ids
 pub mod Standing
 pub mod KindSound

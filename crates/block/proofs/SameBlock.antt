@@ -1,16 +1,24 @@
 -- A block's fields and the places of its parts are fixed by its image and its offset, whatever stands around it. Assumes nothing.
-use Prim.Native.Nat.{ℕ}
+use Prim.Native.Nat.{ℕ, _+_}
 use mathlib.Core.Path.{_≡_, sym, ap, _∙_}
 use mathlib.Core.List.{List, _++_}
 use lib.ListN.{drop, getD}
 use Rattle.format.specs.Blocks.{Kind, inodeBlock, linkBlock, unlinkBlock, xattrBlock, removedXattrBlock, dataBlock, renameBlock, linkTable}
 use Rattle.format.specs.Blocks as format
-use Rattle.block.specs.Fields.{kindWith, kindAt, bodyLength}
-use Rattle.block.specs.Shown.{placeAt, blockOf, blockAt}
+use Rattle.block.specs.Fields.{kindWith, kindAt, fixedLength, bodyLength}
+use Rattle.block.specs.Shown.{blockOf, blockAt}
+use Rattle.block.specs.declared.Part.{Part}
 use Rattle.block.specs.declared.Block.the-variants.{Inode, Link, Unlink, Xattr, RemovedXattr, Data, Rename, Table}
 use Rattle.block.proofs.Ids.{kind-known}
 use Rattle.block.proofs.Standing.{fieldsAt}
 use Rattle.block.proofs.BlockImage.{Reads, block-complete}
+
+-- a first and a second variable part, by their lengths
+abbrev first : Kind → (n offset : ℕ) → Part
+first kind n offset = record { offset = offset + fixedLength kind; len = n }
+
+abbrev second : Kind → (n m offset : ℕ) → Part
+second kind n m offset = record { offset = offset + fixedLength kind + n; len = m }
 
 -- the fields and the length of the variable parts tell all
 fixed : (kind : Kind) (volume other : List ℕ) (offset : ℕ) → fieldsAt kind volume offset ≡ fieldsAt kind other offset
@@ -31,17 +39,17 @@ fixed inodeBlock volume other offset f l =
       ctime = value 7;
       btime = value 8;
       size = value 9;
-      rest = placeAt inodeBlock 0 (value 10) offset;
+      rest = first inodeBlock (value 10) offset;
     }
     )
 fixed linkBlock volume other offset f l =
     λ i.
     let value : ℕ → ℕ = λ k. getD (f i) k 0 in
-    Link (record { time = value 0; child = value 1; parent = value 2; name = placeAt linkBlock 0 (value 3) offset })
+    Link (record { time = value 0; child = value 1; parent = value 2; name = first linkBlock (value 3) offset })
 fixed unlinkBlock volume other offset f l =
     λ i.
     let value : ℕ → ℕ = λ k. getD (f i) k 0 in
-    Unlink (record { time = value 0; child = value 1; parent = value 2; name = placeAt unlinkBlock 0 (value 3) offset })
+    Unlink (record { time = value 0; child = value 1; parent = value 2; name = first unlinkBlock (value 3) offset })
 fixed xattrBlock volume other offset f l =
     λ i.
     let value : ℕ → ℕ = λ k. getD (f i) k 0 in
@@ -49,30 +57,30 @@ fixed xattrBlock volume other offset f l =
     record {
       time = value 0;
       number = value 1;
-      name = placeAt xattrBlock 0 (value 2) offset;
-      value = placeAt xattrBlock (value 2) (value 3) offset;
+      name = first xattrBlock (value 2) offset;
+      value = second xattrBlock (value 2) (value 3) offset;
     }
     )
 fixed removedXattrBlock volume other offset f l =
     λ i.
     let value : ℕ → ℕ = λ k. getD (f i) k 0 in
-    RemovedXattr (record { time = value 0; number = value 1; name = placeAt removedXattrBlock 0 (value 2) offset })
+    RemovedXattr (record { time = value 0; number = value 1; name = first removedXattrBlock (value 2) offset })
 fixed dataBlock volume other offset f l =
     λ i.
     let value : ℕ → ℕ = λ k. getD (f i) k 0 in
-    Data (record { time = value 0; payload = placeAt dataBlock 0 (value 1) offset })
+    Data (record { time = value 0; payload = first dataBlock (value 1) offset })
 fixed renameBlock volume other offset f l =
     λ i.
     let value : ℕ → ℕ = λ k. getD (f i) k 0 in
     Rename (
     record {
       time = value 0;
-      old = placeAt renameBlock 0 (value 1) offset;
-      new = placeAt renameBlock (value 1) (value 2) offset;
+      old = first renameBlock (value 1) offset;
+      new = second renameBlock (value 1) (value 2) offset;
     }
     )
 fixed linkTable volume other offset f l =
-    λ i. Table (record { count = getD (f i) 0 0; links = placeAt linkTable 0 (l i) offset })
+    λ i. Table (record { count = getD (f i) 0 0; links = first linkTable (l i) offset })
 
 -- where the image of the same block stands at the same offset, the blocks there are the same
 pub same-block : (block : format.Block) (volume other : List ℕ) (offset : ℕ) (after others : List ℕ) → format.BlockRules block

@@ -4,22 +4,23 @@ use mathlib.Core.Path.{_≡_, sym, _∙_, subst}
 use mathlib.Core.List.{List, _++_}
 use native.Mathlib.Nat.{add-suc, suc-add}
 use native.Mathlib.Omega.{arith}
-use lib.ListN.{length, drop, length-drop}
-use Rattle.number.specs.Number.{Bytes, part}
+use lib.ListN.{length, take, drop, getD, length-drop}
+use Rattle.number.specs.Number.{Bytes, part, numberAt}
 use Rattle.number.proofs.Digits.{bytes-drop}
 use Rattle.format.specs.Layout.{total, Fit, laid}
 use Rattle.format.specs.Blocks.{Kind, widths}
 use Rattle.format.proofs.Listed.{listed}
 use Rattle.format.proofs.Fields.{valuesIn, values-laid, laid-values, fit-values, values-listed}
-use Rattle.block.specs.Fields.{before, fieldAt, bodyLength}
+use Rattle.block.specs.Fields.{fixedLength, bodyLength}
 
 -- the values of the fixed fields, in layout order
 abbrev pub fieldsAt : Kind → (volume : List ℕ) (offset : ℕ) → List ℕ
-fieldsAt kind volume offset = listed (length (widths kind)) (λ k. fieldAt kind k volume offset)
+fieldsAt kind volume offset =
+    listed (length (widths kind)) (λ k. numberAt volume (offset + suc (total (take k (widths kind)))) (getD (widths kind) k 0))
 
 -- the bytes of the variable parts
 abbrev pub bodyAt : Kind → (volume : List ℕ) (offset : ℕ) → List ℕ
-bodyAt kind volume offset = part volume (offset + before kind) (bodyLength kind volume offset)
+bodyAt kind volume offset = part volume (offset + fixedLength kind) (bodyLength kind volume offset)
 
 module _ (kind : Kind) (volume : List ℕ) (offset : ℕ) where
   fields-values : fieldsAt kind volume offset ≡ valuesIn (widths kind) (drop (suc offset) volume)
@@ -31,7 +32,7 @@ module _ (kind : Kind) (volume : List ℕ) (offset : ℕ) where
       (fit-values (widths kind) (drop (suc offset) volume) (bytes-drop (suc offset) volume b))
 
   -- fixed fields that end within the volume are laid out as they stand
-  pub fields-laid : Bytes volume → offset + before kind ≤ length volume
+  pub fields-laid : Bytes volume → offset + fixedLength kind ≤ length volume
       → laid (widths kind) (fieldsAt kind volume offset) ≡ part volume (suc offset) (total (widths kind))
   fields-laid b h =
       let k : total (widths kind) ≤ length (drop (suc offset) volume) = omega (arith, length-drop (suc offset) volume) in

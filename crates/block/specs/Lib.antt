@@ -1,4 +1,4 @@
 pub mod Fields
 pub mod Order
-pub mod Parts
 pub mod Shown
+pub mod inner

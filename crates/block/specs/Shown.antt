@@ -2,93 +2,76 @@
 use Prim.Native.Nat.{ℕ, _+_}
 use mathlib.Core.Option.{Option, none, some}
 use mathlib.Core.List.{List}
-use Rattle.number.specs.Number.{part}
 use Rattle.format.specs.Blocks as format
 use Rattle.format.specs.Blocks.{Kind, inodeBlock, linkBlock, unlinkBlock, xattrBlock, removedXattrBlock, dataBlock, renameBlock, linkTable}
-use Rattle.block.specs.Fields.{kindAt, before, fieldAt, bodyLength, bodyEnd}
-use Rattle.links.specs.Links.{linksFrom}
-use Rattle.block.specs.declared.Part.{Part}
+use Rattle.block.specs.Fields.{kindAt, fixedLength, fieldAt, bodyLength, bodyEnd, firstPart, secondPart, bytesOf}
+use Rattle.block.specs.declared.LinkBlock.{LinkBlock}
 use Rattle.block.specs.declared.Block.{Block}
 use Rattle.block.specs.declared.Decoded.{Decoded}
 use Rattle.block.specs.declared.Block.the-variants.{Inode, Link, Unlink, Xattr, RemovedXattr, Data, Rename, Table}
 
--- a variable part, by its distance from where the variable parts begin
-abbrev pub placeAt : Kind → (from len offset : ℕ) → Part
-placeAt kind from len offset = record { offset = offset + before kind + from; len = len }
+-- what a link or an unlink block holds
+abbrev pub linkBlockOf : Kind → (volume : List ℕ) (offset : ℕ) → LinkBlock
+linkBlockOf kind volume offset =
+    record {
+      time = fieldAt kind "time" volume offset;
+      child = fieldAt kind "child" volume offset;
+      parent = fieldAt kind "parent" volume offset;
+      name = firstPart kind volume offset;
+    }
 
 -- the block of a kind at an offset
 unfoldable pub blockOf : Kind → (volume : List ℕ) (offset : ℕ) → Block
 blockOf inodeBlock volume offset =
     Inode (
     record {
-      number = fieldAt inodeBlock 0 volume offset;
-      time = fieldAt inodeBlock 1 volume offset;
-      mode = fieldAt inodeBlock 2 volume offset;
-      uid = fieldAt inodeBlock 3 volume offset;
-      gid = fieldAt inodeBlock 4 volume offset;
-      atime = fieldAt inodeBlock 5 volume offset;
-      mtime = fieldAt inodeBlock 6 volume offset;
-      ctime = fieldAt inodeBlock 7 volume offset;
-      btime = fieldAt inodeBlock 8 volume offset;
-      size = fieldAt inodeBlock 9 volume offset;
-      rest = placeAt inodeBlock 0 (fieldAt inodeBlock 10 volume offset) offset;
+      number = fieldAt inodeBlock "inode" volume offset;
+      time = fieldAt inodeBlock "time" volume offset;
+      mode = fieldAt inodeBlock "mode" volume offset;
+      uid = fieldAt inodeBlock "uid" volume offset;
+      gid = fieldAt inodeBlock "gid" volume offset;
+      atime = fieldAt inodeBlock "atime" volume offset;
+      mtime = fieldAt inodeBlock "mtime" volume offset;
+      ctime = fieldAt inodeBlock "ctime" volume offset;
+      btime = fieldAt inodeBlock "btime" volume offset;
+      size = fieldAt inodeBlock "size" volume offset;
+      rest = firstPart inodeBlock volume offset;
     }
     )
-blockOf linkBlock volume offset =
-    Link (
-    record {
-      time = fieldAt linkBlock 0 volume offset;
-      child = fieldAt linkBlock 1 volume offset;
-      parent = fieldAt linkBlock 2 volume offset;
-      name = placeAt linkBlock 0 (fieldAt linkBlock 3 volume offset) offset;
-    }
-    )
-blockOf unlinkBlock volume offset =
-    Unlink (
-    record {
-      time = fieldAt unlinkBlock 0 volume offset;
-      child = fieldAt unlinkBlock 1 volume offset;
-      parent = fieldAt unlinkBlock 2 volume offset;
-      name = placeAt unlinkBlock 0 (fieldAt unlinkBlock 3 volume offset) offset;
-    }
-    )
+blockOf linkBlock volume offset = Link (linkBlockOf linkBlock volume offset)
+blockOf unlinkBlock volume offset = Unlink (linkBlockOf unlinkBlock volume offset)
 blockOf xattrBlock volume offset =
     Xattr (
     record {
-      time = fieldAt xattrBlock 0 volume offset;
-      number = fieldAt xattrBlock 1 volume offset;
-      name = placeAt xattrBlock 0 (fieldAt xattrBlock 2 volume offset) offset;
-      value = placeAt xattrBlock (fieldAt xattrBlock 2 volume offset) (fieldAt xattrBlock 3 volume offset) offset;
+      time = fieldAt xattrBlock "time" volume offset;
+      number = fieldAt xattrBlock "inode" volume offset;
+      name = firstPart xattrBlock volume offset;
+      value = secondPart xattrBlock volume offset;
     }
     )
 blockOf removedXattrBlock volume offset =
     RemovedXattr (
     record {
-      time = fieldAt removedXattrBlock 0 volume offset;
-      number = fieldAt removedXattrBlock 1 volume offset;
-      name = placeAt removedXattrBlock 0 (fieldAt removedXattrBlock 2 volume offset) offset;
+      time = fieldAt removedXattrBlock "time" volume offset;
+      number = fieldAt removedXattrBlock "inode" volume offset;
+      name = firstPart removedXattrBlock volume offset;
     }
     )
 blockOf dataBlock volume offset =
-    Data (
-    record {
-      time = fieldAt dataBlock 0 volume offset;
-      payload = placeAt dataBlock 0 (fieldAt dataBlock 1 volume offset) offset;
-    }
-    )
+    Data (record { time = fieldAt dataBlock "time" volume offset; payload = firstPart dataBlock volume offset })
 blockOf renameBlock volume offset =
     Rename (
     record {
-      time = fieldAt renameBlock 0 volume offset;
-      old = placeAt renameBlock 0 (fieldAt renameBlock 1 volume offset) offset;
-      new = placeAt renameBlock (fieldAt renameBlock 1 volume offset) (fieldAt renameBlock 2 volume offset) offset;
+      time = fieldAt renameBlock "time" volume offset;
+      old = firstPart renameBlock volume offset;
+      new = secondPart renameBlock volume offset;
     }
     )
 blockOf linkTable volume offset =
     Table (
     record {
-      count = fieldAt linkTable 0 volume offset;
-      links = placeAt linkTable 0 (bodyLength linkTable volume offset) offset;
+      count = fieldAt linkTable "link count" volume offset;
+      links = record { offset = offset + fixedLength linkTable; len = bodyLength linkTable volume offset };
     }
     )
 
@@ -103,21 +86,46 @@ decodedOf kind volume offset = record { block = blockOf kind volume offset; end 
 abbrev pub decodedAt : (volume : List ℕ) (offset : ℕ) → Decoded
 decodedAt volume offset = decodedOf (kindAt volume offset) volume offset
 
--- the bytes of a part
-abbrev pub bytesOf : (volume : List ℕ) → Part → List ℕ
-bytesOf volume p = part volume (p .offset) (p .len)
+-- what a link or an unlink block shows
+abbrev pub shownFields : (volume : List ℕ) → LinkBlock → format.LinkFields
+shownFields volume b =
+    record { time = b .time; child = b .child; parent = b .parent; name = bytesOf volume (b .name) }
 
 -- the block that the fields and parts show
 unfoldable pub shown : (volume : List ℕ) → Block → format.Block
 shown volume (Inode b) =
-    format.Inode (b .number) (b .time) (b .mode) (b .uid) (b .gid) (b .atime) (b .mtime) (b .ctime) (b .btime) (b .size) (bytesOf volume (b .rest))
-shown volume (Link b) = format.Link (b .time) (b .child) (b .parent) (bytesOf volume (b .name))
-shown volume (Unlink b) = format.Unlink (b .time) (b .child) (b .parent) (bytesOf volume (b .name))
-shown volume (Xattr b) = format.Xattr (b .time) (b .number) (bytesOf volume (b .name)) (bytesOf volume (b .value))
-shown volume (RemovedXattr b) = format.RemovedXattr (b .time) (b .number) (bytesOf volume (b .name))
-shown volume (Data b) = format.Data (b .time) (bytesOf volume (b .payload))
-shown volume (Rename b) = format.Rename (b .time) (bytesOf volume (b .old)) (bytesOf volume (b .new))
-shown volume (Table b) = format.Table (linksFrom (bytesOf volume (b .links)) 0 (b .count))
+    format.Inode (
+    record {
+      inode = b .number;
+      time = b .time;
+      mode = b .mode;
+      uid = b .uid;
+      gid = b .gid;
+      atime = b .atime;
+      mtime = b .mtime;
+      ctime = b .ctime;
+      btime = b .btime;
+      size = b .size;
+      rest = bytesOf volume (b .rest);
+    }
+    )
+shown volume (Link b) = format.Link (shownFields volume b)
+shown volume (Unlink b) = format.Unlink (shownFields volume b)
+shown volume (Xattr b) =
+    format.Xattr (
+    record {
+      time = b .time;
+      inode = b .number;
+      name = bytesOf volume (b .name);
+      value = bytesOf volume (b .value);
+    }
+    )
+shown volume (RemovedXattr b) =
+    format.RemovedXattr (record { time = b .time; inode = b .number; name = bytesOf volume (b .name) })
+shown volume (Data b) = format.Data (record { time = b .time; payload = bytesOf volume (b .payload) })
+shown volume (Rename b) =
+    format.Rename (record { time = b .time; old = bytesOf volume (b .old); new = bytesOf volume (b .new) })
+shown volume (Table b) = format.Table (record { count = b .count; links = bytesOf volume (b .links) })
 
 -- the time of a block; a table has none
 abbrev pub timeOfBlock : Block → Option ℕ

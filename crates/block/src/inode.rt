@@ -17,10 +17,10 @@ ghost use lib.ListN.{length};
 ghost use Rattle.number.specs.Number.{part};
 ghost use Rattle.format.specs.Blocks.{inodeBlock, fileType, regular, symbolicLink, other};
 ghost use Rattle.checks.specs.Checks.{firstFault};
-ghost use Rattle.block.specs.Order.{kindOrder, tooLong};
+ghost use Rattle.block.specs.Order.{kindOrder, tooLong, restOrder};
 ghost use Rattle.block.specs.Shown.{decodedOf};
 ghost use Rattle.block.specs.Fields.{bodyEnd};
-ghost use Rattle.block.specs.Parts.{sealedOrder, restOrder};
+ghost use Rattle.block.specs.inner.Parts.{sealedOrder};
 
 // File types: the mode divided by 4,096.
 const REGULAR: u16 = 8;
@@ -48,7 +48,7 @@ pub fn is_too_long(mode: u16, n: u64) -> bool
 // The first fault of a regular file's list of extents. The rules of every extent come before any overlap.
 fn list_fault(list: &[u8]) -> u64
     requires { ⌜ length (now list) ≤ 58368 ⌝ }
-    ensures { λ r. ⌜ r ≡ firstFault (restOrder regular 0 (length (now (list .entry))) (now (list .entry))) ⌝ }
+    ensures { λ r. ⌜ r ≡ firstFault (restOrder regular 0 (now (list .entry))) ⌝ }
 {
     if list.len() % EXTENT_LEN != 0 {
         return RULE_BROKEN;
@@ -64,7 +64,7 @@ fn list_fault(list: &[u8]) -> u64
 
 // The first fault of a symbolic link's size and target.
 fn target_fault(size: u64, target: &[u8]) -> u64
-    ensures { λ r. ⌜ r ≡ firstFault (restOrder symbolicLink size (length (now (target .entry))) (now (target .entry))) ⌝ }
+    ensures { λ r. ⌜ r ≡ firstFault (restOrder symbolicLink size (now (target .entry))) ⌝ }
 {
     if !utf8::is_text(target) {
         return NOT_TEXT;
@@ -77,7 +77,7 @@ fn target_fault(size: u64, target: &[u8]) -> u64
 
 // The first fault of any other file's size and n bytes: it has no such bytes, and its size is fixed.
 fn other_fault(size: u64, rest: &[u8]) -> u64
-    ensures { λ r. ⌜ r ≡ firstFault (restOrder other size (length (now (rest .entry))) (now (rest .entry))) ⌝ }
+    ensures { λ r. ⌜ r ≡ firstFault (restOrder other size (now (rest .entry))) ⌝ }
 {
     if rest.len() != 0 {
         return RULE_BROKEN;
@@ -91,7 +91,7 @@ fn other_fault(size: u64, rest: &[u8]) -> u64
 // Internal: the first fault of an inode's size and n bytes, by file type.
 pub fn rest_fault(mode: u16, size: u64, rest: &[u8]) -> u64
     requires { ⌜ tooLong (fileType mode) (length (now rest)) ≡ false ⌝ }
-    ensures { λ r. ⌜ r ≡ firstFault (restOrder (fileType mode) size (length (now (rest .entry))) (now (rest .entry))) ⌝ }
+    ensures { λ r. ⌜ r ≡ firstFault (restOrder (fileType mode) size (now (rest .entry))) ⌝ }
 {
     match mode / 4096 {
         REGULAR => list_fault(rest),
@@ -104,7 +104,7 @@ pub fn rest_fault(mode: u16, size: u64, rest: &[u8]) -> u64
 fn end_fault(volume: &[u8], offset: usize, from: usize, mode: u16, size: u64, n: u64) -> u64
     requires { ⌜ (offset ≤ from) × (from ≤ length (now volume)) × (tooLong (fileType mode) n ≡ false) ⌝ }
     ensures { λ r. ⌜ r ≡ firstFault (sealedOrder (now (volume .entry)) offset (from + n)
-        ++ restOrder (fileType mode) size n (part (now (volume .entry)) from n)) ⌝ }
+        ++ restOrder (fileType mode) size (part (now (volume .entry)) from n)) ⌝ }
 {
     let fault = sealed_fault(volume, offset, from, n);
     if fault != 0 {

@@ -25,7 +25,7 @@ ghost use Prim.Native.Nat.{_+_, _≤_, _<_};
 ghost use lib.ListN.{length};
 ghost use Rattle.checks.specs.Checks.{firstFault};
 ghost use Rattle.block.specs.Fields.{kindWith, kindAt};
-ghost use Rattle.block.specs.Order.{volumeLimit, unknownId, wrongPlace, sumWrong, kindOrder, blockOrder};
+ghost use Rattle.block.specs.Order.{volumeLimit, unknownId, wrongPlace, checksumWrong, kindOrder, blockOrder};
 ghost use Rattle.block.specs.Shown.{decodedAt};
 
 // A part of the volume: where it begins and how long it is.
@@ -179,7 +179,7 @@ pub fn decode(volume: &[u8], offset: usize) -> Decoded
 // Internal: whether the four bytes at `end` are not the CRC of the bytes from `offset` to `end`.
 pub fn sum_wrong(volume: &[u8], offset: usize, end: usize) -> bool
     requires { ⌜ (offset ≤ end) × (end + 4 ≤ length (now volume)) ⌝ }
-    ensures { λ r. ⌜ r ≡ sumWrong (now (volume .entry)) offset end ⌝ }
+    ensures { λ r. ⌜ r ≡ checksumWrong (now (volume .entry)) offset end ⌝ }
 {
     number::read_u32(volume, end) != crc32::crc32(&volume[offset..end])
 }

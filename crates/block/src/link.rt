@@ -11,9 +11,8 @@ ghost use lib.ListN.{length};
 ghost use Rattle.format.specs.Blocks.{linkBlock, unlinkBlock};
 ghost use Rattle.checks.specs.Checks.{firstFault};
 ghost use Rattle.block.specs.Order.{kindOrder};
-ghost use Rattle.block.specs.Shown.{decodedOf};
-ghost use Rattle.block.specs.Fields.{bodyEnd};
-ghost use Rattle.block.specs.Parts.{linkFields};
+ghost use Rattle.block.specs.Shown.{linkBlockOf, decodedOf};
+ghost use Rattle.block.specs.Fields.{fieldAt, bodyEnd};
 
 // The first fault of the link block at `offset`. An unlink block has the same checks.
 pub(crate) fn link_fault(volume: &[u8], offset: usize) -> u64
@@ -28,10 +27,10 @@ pub(crate) fn link_fault(volume: &[u8], offset: usize) -> u64
     text_fault(volume, offset, from, n, n)
 }
 
-// The fields of either block, with a name of `n` bytes.
+// The fields of either block, whose name has `n` bytes.
 fn fields(volume: &[u8], offset: usize, n: usize) -> LinkBlock
-    requires { ⌜ offset + 27 ≤ length (now volume) ⌝ }
-    ensures { λ r. ⌜ r ≡ linkFields (now (volume .entry)) offset n ⌝ }
+    requires { ⌜ (offset + 27 ≤ length (now volume)) × (n ≡ fieldAt linkBlock "n" (now volume) offset) ⌝ }
+    ensures { λ r. ⌜ r ≡ linkBlockOf linkBlock (now (volume .entry)) offset ⌝ }
 {
     LinkBlock {
         time: number::read_u64(volume, offset + 1),

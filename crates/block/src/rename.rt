@@ -14,7 +14,7 @@ ghost use Rattle.checks.specs.Checks.{firstFault};
 ghost use Rattle.block.specs.Order.{kindOrder};
 ghost use Rattle.block.specs.Shown.{decodedOf};
 ghost use Rattle.block.specs.Fields.{bodyEnd};
-ghost use Rattle.block.specs.Parts.{pathsOrder};
+ghost use Rattle.block.specs.inner.Parts.{pathsOrder};
 
 // The first fault in the end of the block at `offset`, whose two paths of `n` and `m` bytes begin at `from`.
 fn paths_fault(volume: &[u8], offset: usize, from: usize, n: usize, m: usize) -> u64

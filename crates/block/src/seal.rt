@@ -6,7 +6,7 @@ ghost use mathlib.Core.Path.{_≡_};
 ghost use Prim.Native.Nat.{_+_, _≤_};
 ghost use lib.ListN.{length};
 ghost use Rattle.checks.specs.Checks.{firstFault};
-ghost use Rattle.block.specs.Parts.{sealedOrder};
+ghost use Rattle.block.specs.inner.Parts.{sealedOrder};
 
 // The first fault in the end of the block at `offset`, whose variable parts are `n` bytes from `from` on.
 // What is left is compared with `n` before `n` is added: it is any 64-bit number, and the sum may not fit.

@@ -19,7 +19,7 @@ ghost use Rattle.block.specs.Order.{volumeLimit, kindOrder};
 ghost use Rattle.block.specs.Shown.{decodedOf};
 ghost use Rattle.block.specs.Fields.{bodyEnd, fieldAt};
 ghost use Rattle.links.specs.Links.{linkStart};
-ghost use Rattle.block.specs.Parts.{sealedOrder, linksOrder};
+ghost use Rattle.block.specs.inner.Parts.{sealedOrder, linksOrder};
 
 // How many bytes the links from `from` on take.
 fn len_of_links(volume: &[u8], from: usize, count: u64) -> usize
@@ -76,7 +76,7 @@ pub(crate) fn table_fault(volume: &[u8], offset: usize) -> u64
 
 // The link table at `offset`.
 pub(crate) fn decode_table(volume: &[u8], offset: usize) -> Decoded
-    requires { ⌜ (bodyEnd linkTable (now volume) offset + 4 ≤ length (now volume)) × (fieldAt linkTable 0 (now volume) offset ≤ 4096) ⌝ }
+    requires { ⌜ (bodyEnd linkTable (now volume) offset + 4 ≤ length (now volume)) × (fieldAt linkTable "link count" (now volume) offset ≤ 4096) ⌝ }
     ensures { λ r. ⌜ r ≡ decodedOf linkTable (now (volume .entry)) offset ⌝ }
 {
     let from = offset + 9;

@@ -5,7 +5,7 @@ ghost use mathlib.Core.Path.{_≡_};
 ghost use Prim.Native.Nat.{_≤_};
 ghost use lib.ListN.{length};
 ghost use Rattle.checks.specs.Checks.{firstFault};
-ghost use Rattle.block.specs.Parts.{textOrder};
+ghost use Rattle.block.specs.inner.Parts.{textOrder};
 
 // The first fault in the end of the block at `offset`, whose variable parts are `len` bytes from `from` on, of which
 // the first `text` are a text.

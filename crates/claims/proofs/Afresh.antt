@@ -1,7 +1,7 @@
 -- Writing a reading afresh is accepted at every call and leaves its bytes. Assumes nothing.
 use Prim.Native.Nat.{ℕ, _+_, _≤_}
 use mathlib.Core.Path.{_≡_, refl, sym, ap, _∙_, subst}
-use mathlib.Core.List.{List, [], _∷_, _++_, map}
+use mathlib.Core.List.{List, [], _∷_, _++_}
 use native.Mathlib.Omega.{arith}
 use lib.ListN.{length, take, drop, length-append}
 use lib.Seq.{length-take-le}
@@ -12,7 +12,6 @@ use Rattle.format.specs.Blocks.{Block, image}
 use Rattle.format.specs.Headers.{headerImage}
 use Rattle.format.specs.Readings.{Reading, Keeps, images, volumeOf, ReadingOf}
 use Rattle.block.specs.Order.{volumeLimit}
-use Rattle.request.specs.Asking.{requestFor}
 use Rattle.volume.specs.declared.Bookmark.{Bookmark}
 use Rattle.volume.proofs.HeaderImage.{length-header}
 use Rattle.volume.proofs.OneCall.{after}
@@ -32,22 +31,22 @@ record Wrote (buffer : List ℕ) (mark : Bookmark) (sofar : Reading) (blocks : L
 
 wrote : (blocks : List Block) (buffer : List ℕ) (mark : Bookmark) (sofar : Reading) → Sofar buffer mark sofar → Follow mark blocks
     → mark .offset + length (images blocks) ≤ volumeLimit → mark .offset + length (images blocks) ≤ length buffer
-    → Wrote buffer mark sofar blocks (appends ours buffer mark (map requestFor blocks))
+    → Wrote buffer mark sofar blocks (appends ours buffer mark blocks)
 unfolding appends images
 wrote [] buffer mark sofar s f small fits =
     record { answers = tt; stands = subst (Sofar buffer mark) (extended-none sofar) s; grows = omega arith; rest = refl }
 wrote (block ∷ blocks) buffer mark sofar s f small fits =
     let l : length (image block ++ images blocks) ≡ length (image block) + length (images blocks)
     = length-append (image block) (images blocks) in
-    let a : Admitted (length buffer) mark (requestFor block) block
-    = record { asks = refl; allowed = f .0; base = s .base; small = omega arith; fits = omega arith } in
+    let a : Admitted (length buffer) mark block
+    = record { allowed = f .0; base = s .base; small = omega arith; fits = omega arith } in
     let next : List ℕ = put buffer (mark .offset) (image block) in
     let same : length next ≡ length buffer = length-put buffer (mark .offset) (image block) in
-    let w : Wrote next (after mark block) (extended sofar (block ∷ [])) blocks (appends ours next (after mark block) (map requestFor blocks))
-    = wrote blocks next (after mark block) (extended sofar (block ∷ [])) (sofar-more buffer mark sofar (requestFor block) block s a) (f .1)
+    let w : Wrote next (after mark block) (extended sofar (block ∷ [])) blocks (appends ours next (after mark block) blocks)
+    = wrote blocks next (after mark block) (extended sofar (block ∷ [])) (sofar-more buffer mark sofar block s a) (f .1)
     (omega arith) (omega arith) in
-    let p = admitted-appended buffer mark (requestFor block) block a in
-    let outcome : Outcome = appends ours next (after mark block) (map requestFor blocks) in
+    let p = admitted-appended buffer mark block a in
+    let outcome : Outcome = appends ours next (after mark block) blocks in
     let grows : mark .offset + length (image block) ≤ outcome .mark .offset = w .grows in
     rw (p .0, p .1)
     (record {
@@ -73,10 +72,10 @@ fresh volume reading buffer small r room =
     let first : List ℕ = put buffer 0 header in
     let same : length first ≡ length buffer = length-put buffer 0 header in
     let start : Reading = record { header = reading .header; blocks = [] } in
-    let w : Wrote first (startOf reading) start (reading .blocks) (appends ours first (startOf reading) (map requestFor (reading .blocks)))
+    let w : Wrote first (startOf reading) start (reading .blocks) (appends ours first (startOf reading) (reading .blocks))
     = wrote (reading .blocks) first (startOf reading) start (header-stands buffer (reading .header) (k .header) (omega arith))
     (keeps-follow reading k) (omega arith) (omega arith) in
-    let outcome : Outcome = appends ours first (startOf reading) (map requestFor (reading .blocks)) in
+    let outcome : Outcome = appends ours first (startOf reading) (reading .blocks) in
     let stands : Sofar (outcome .buffer) (outcome .mark) reading = w .stands in
     let bytes : take (outcome .mark .offset) (outcome .buffer) ≡ volume = stands .same ∙ r .bytes in
     let end : outcome .mark .offset ≡ length volume

@@ -1,8 +1,8 @@
--- One append: it is accepted exactly if it asks for a block that the rules allow at the bookmark, with room and within the size;
+-- One append: it is accepted exactly if the rules allow the block at the bookmark, with room and within the size;
 -- the image then stands at the bookmark. And a header written. Assumes nothing.
 use Prim.Native.Nat.{ℕ, _+_, _≤_}
-use mathlib.Core.Path.{_≡_, refl, sym, ap, _∙_}
-use mathlib.Core.Bool.{Bool, true, false, not, cond, Bool·beq}
+use mathlib.Core.Path.{_≡_, refl, sym, ap}
+use mathlib.Core.Bool.{Bool, true, false, not, cond}
 use mathlib.Core.List.{List}
 use native.Mathlib.Omega.{arith}
 use lib.Dec.{eqb}
@@ -16,12 +16,13 @@ use Rattle.refusal.specs.Refusal.{refusalOf}
 use Rattle.refusal.specs.declared.Refusal.{Refusal}
 use Rattle.format.specs.Blocks.{Block, image}
 use Rattle.format.specs.Headers.{Header, headerImage, HeaderRules}
+use Rattle.format.specs.Readings.{timeOf}
 use Rattle.block.specs.Order.{volumeLimit}
-use Rattle.request.specs.Requests.{Request, isTable, timeIn, imageIn, requestOrder}
-use Rattle.request.specs.Asking.{requestFor, Sized}
-use Rattle.request.proofs.Asked.{blockIn, Asked, request-sound, request-complete, Agree, asked-agree}
+use Rattle.block.proofs.Ids.{isTable}
+use Rattle.request.specs.Requests.{requestOrder}
+use Rattle.request.specs.Asking.{Sized}
+use Rattle.request.proofs.Rules.{request-numbered, request-sound, request-complete}
 use Rattle.volume.specs.Heading.{firstMark}
-use Rattle.volume.specs.Reading.{markAfter}
 use Rattle.volume.specs.Writing.{placeOrder, appendFault, appendAnswer, appendBuffer}
 use Rattle.volume.specs.Writing.{SizedHeader, writeFault, writeAnswer, writeBuffer}
 use Rattle.volume.specs.declared.Bookmark.{Bookmark}
@@ -33,84 +34,67 @@ use Rattle.volume.proofs.OneCall.{Allowed, after, follows, may-follow, right-pl
 
 -- The checks of an append.
 
--- the request is for a block that the rules allow at the bookmark, with room and within the size
-pub record Admitted (room : ℕ) (mark : Bookmark) (request : Request) (block : Block) : Type 0 where
-  pub asks : requestFor block ≡ request
+-- the rules allow the block at the bookmark, with room and within the size
+pub record Admitted (room : ℕ) (mark : Bookmark) (block : Block) : Type 0 where
   pub allowed : Allowed mark block
   pub base : 80 ≤ mark .offset
   pub small : mark .offset + length (image block) ≤ volumeLimit
   pub fits : mark .offset + length (image block) ≤ room
 
-module _ (room : ℕ) (mark : Bookmark) (request : Request) where
-  pub append-sound : Sized request → appendFault room mark request ≡ 0 → Admitted room mark request (blockIn request)
+module _ (room : ℕ) (mark : Bookmark) (block : Block) where
+  pub append-sound : Sized block → appendFault room mark block ≡ 0 → Admitted room mark block
   append-sound s e =
-      let p = append-passed room mark request e in
-      let a : Asked request (blockIn request) = request-sound request s (p .own) in
-      let same : Agree request (blockIn request) = asked-agree a in
+      let p = append-passed room mark block e in
       record {
-        asks = a .asks;
         allowed = record {
-          place = right-place (mark .due) _ (p .place) ∙ same .same-place;
-          keeps = a .keeps;
-          time = rw (← same .same-time) (follows (mark .last) _ (p .time));
+          place = right-place (mark .due) _ (p .place);
+          keeps = request-sound block s (p .own);
+          time = follows (mark .last) _ (p .time);
         };
         base = p .base;
-        small = rw (← same .same-image) (p .small);
-        fits = rw (← same .same-image) (p .fits);
+        small = p .small;
+        fits = p .fits;
       }
 
-  pub append-complete : (block : Block) → Admitted room mark request block → appendFault room mark request ≡ 0
+  pub append-complete : Admitted room mark block → appendFault room mark block ≡ 0
   unfolding appendFault
-  append-complete block a =
-      let asked : Asked request block = record { asks = a .asks; keeps = a .allowed .keeps } in
-      let same : Agree request block = asked-agree asked in
-      let place : not (Bool·beq (mark .due) (isTable request)) ≡ false
-      = place-right (mark .due) (isTable request) (a .allowed .place ∙ sym (same .same-place)) in
-      let time = may-follow (mark .last) (timeIn request) (rw (same .same-time) (a .allowed .time)) in
-      let small : mark .offset + length (imageIn request) ≤ volumeLimit = rw (same .same-image) (a .small) in
-      let fits : mark .offset + length (imageIn request) ≤ room = rw (same .same-image) (a .fits) in
-      none-append (placeOrder mark (isTable request)) _ tt
-      (sym (decided (miss (le-ltb _ _ (a .base)) (miss place clear))))
-      (none-append (requestOrder request) _ tt (request-complete request block asked)
-      (sym (decided (miss (ap not time) (miss (le-ltb _ _ small) (miss (le-ltb _ _ fits) clear))))))
+  append-complete a =
+      let time = may-follow (mark .last) (timeOf block) (a .allowed .time) in
+      none-append (placeOrder mark (isTable block)) _ tt
+      (sym (decided (miss (le-ltb _ _ (a .base)) (miss (place-right (mark .due) (isTable block) (a .allowed .place)) clear))))
+      (none-append (requestOrder block) _ (request-numbered block) (request-complete block (a .allowed .keeps) .1)
+      (sym (decided (miss (ap not time) (miss (le-ltb _ _ (a .small)) (miss (le-ltb _ _ (a .fits)) clear))))))
 
 -- the two answers, each with its reason and with what the buffer then holds
-pub data Appended (buffer : List ℕ) (mark : Bookmark) (request : Request) : WriteAnswer → List ℕ → Type 0 where
+pub data Appended (buffer : List ℕ) (mark : Bookmark) (block : Block) : WriteAnswer → List ℕ → Type 0 where
   accepted :
-      (block : Block)
-      → Admitted (length buffer) mark request block
-      → Appended buffer mark request (Next (after mark block)) (put buffer (mark .offset) (image block))
+      Admitted (length buffer) mark block
+      → Appended buffer mark block (Next (after mark block)) (put buffer (mark .offset) (image block))
   refused :
       (refusal : Refusal)
-      → ((block : Block) → Admitted (length buffer) mark request block → ⊥)
-      → Appended buffer mark request (Refused refusal) buffer
+      → (Admitted (length buffer) mark block → ⊥)
+      → Appended buffer mark block (Refused refusal) buffer
 
-pub appended : (buffer : List ℕ) (mark : Bookmark) (request : Request) → Sized request
-    → Appended buffer mark request (appendAnswer (length buffer) mark request) (appendBuffer buffer mark request)
+pub appended : (buffer : List ℕ) (mark : Bookmark) (block : Block) → Sized block
+    → Appended buffer mark block (appendAnswer (length buffer) mark block) (appendBuffer buffer mark block)
 unfolding appendAnswer appendBuffer
-appended buffer mark request s = go (eqb (appendFault (length buffer) mark request) 0) refl
+appended buffer mark block s = go (eqb (appendFault (length buffer) mark block) 0) refl
   where
-    go : (sound : Bool) → eqb (appendFault (length buffer) mark request) 0 ≡ sound
-        → Appended buffer mark request
-        (cond sound (Next (markAfter mark (mark .offset + length (imageIn request)) (timeIn request)))
-        (Refused (refusalOf (appendFault (length buffer) mark request))))
-        (cond sound (put buffer (mark .offset) (imageIn request)) buffer)
-    go true e =
-        let a = append-sound (length buffer) mark request s (eqb-true _ _ e) in
-        let same : Agree request (blockIn request) = asked-agree (record { asks = a .asks; keeps = a .allowed .keeps }) in
-        rw (same .same-image, same .same-time) (accepted (blockIn request) a)
-    go false e = refused _ (λ block a. eqb-false _ _ e (append-complete (length buffer) mark request block a))
+    go : (sound : Bool) → eqb (appendFault (length buffer) mark block) 0 ≡ sound
+        → Appended buffer mark block
+        (cond sound (Next (after mark block)) (Refused (refusalOf (appendFault (length buffer) mark block))))
+        (cond sound (put buffer (mark .offset) (image block)) buffer)
+    go true e = accepted (append-sound (length buffer) mark block s (eqb-true _ _ e))
+    go false e = refused _ (λ a. eqb-false _ _ e (append-complete (length buffer) mark block a))
 
 -- and the same of a block that is known to be admitted
-pub admitted-appended : (buffer : List ℕ) (mark : Bookmark) (request : Request) (block : Block)
-    → Admitted (length buffer) mark request block
-    → (appendAnswer (length buffer) mark request ≡ Next (after mark block))
-    × (appendBuffer buffer mark request ≡ put buffer (mark .offset) (image block))
+pub admitted-appended : (buffer : List ℕ) (mark : Bookmark) (block : Block) → Admitted (length buffer) mark block
+    → (appendAnswer (length buffer) mark block ≡ Next (after mark block))
+    × (appendBuffer buffer mark block ≡ put buffer (mark .offset) (image block))
 unfolding appendAnswer appendBuffer
-admitted-appended buffer mark request block a =
-    let e = append-complete (length buffer) mark request block a in
-    let same : Agree request block = asked-agree (record { asks = a .asks; keeps = a .allowed .keeps }) in
-    (rw (e, same .same-image, same .same-time), rw (e, same .same-image))
+admitted-appended buffer mark block a =
+    let e = append-complete (length buffer) mark block a in
+    (rw e, rw e)
 
 -- The header.
 

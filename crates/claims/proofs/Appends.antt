@@ -15,7 +15,6 @@ use Rattle.block.specs.Order.{volumeLimit}
 use Rattle.block.specs.Shown.{blockAt, shown}
 use Rattle.block.proofs.SameBlock.{same-block}
 use Rattle.volume.specs.Reading.{readAnswer}
-use Rattle.request.specs.Requests.{Request}
 use Rattle.request.specs.Asking.{Sized}
 use Rattle.volume.specs.declared.Bookmark.{Bookmark}
 use Rattle.volume.specs.declared.Found.{Found}
@@ -48,34 +47,34 @@ drop-later m n a b h e =
 
 -- The list.
 
-pub record Claimed (buffer : List ℕ) (mark : Bookmark) (sofar : Reading) (requests : List Request) (outcome : Outcome) : Type 0 where
+pub record Claimed (buffer : List ℕ) (mark : Bookmark) (sofar : Reading) (asked : List Block) (outcome : Outcome) : Type 0 where
   pub blocks : List Block
-  pub judged : Judged (length buffer) sofar requests (outcome .answers) blocks
+  pub judged : Judged (length buffer) sofar asked (outcome .answers) blocks
   pub stands : Sofar (outcome .buffer) (outcome .mark) (extended sofar blocks)
   pub grows : mark .offset ≤ outcome .mark .offset
   pub rest : drop (outcome .mark .offset) (outcome .buffer) ≡ drop (outcome .mark .offset) buffer
 
-abbrev ClaimedOf : List Request → Type 0
-ClaimedOf requests = (buffer : List ℕ) (mark : Bookmark) (sofar : Reading) → Sofar buffer mark sofar
-    → Claimed buffer mark sofar requests (appends ours buffer mark requests)
+abbrev ClaimedOf : List Block → Type 0
+ClaimedOf asked = (buffer : List ℕ) (mark : Bookmark) (sofar : Reading) → Sofar buffer mark sofar
+    → Claimed buffer mark sofar asked (appends ours buffer mark asked)
 
 -- one append, and then the others
-step : (request : Request) (requests : List Request) → ClaimedOf requests
+step : (block : Block) (asked : List Block) → ClaimedOf asked
     → (buffer : List ℕ) (mark : Bookmark) (sofar : Reading) → Sofar buffer mark sofar
-    → {answer : WriteAnswer} {next : List ℕ} → Appended buffer mark request answer next
-    → Claimed buffer mark sofar (request ∷ requests) (answeredFirst answer (appends ours next (onward mark answer) requests))
-step request requests others buffer mark sofar s (one.accepted block a) =
+    → {answer : WriteAnswer} {next : List ℕ} → Appended buffer mark block answer next
+    → Claimed buffer mark sofar (block ∷ asked) (answeredFirst answer (appends ours next (onward mark answer) asked))
+step block asked others buffer mark sofar s (one.accepted a) =
     let next : List ℕ = put buffer (mark .offset) (image block) in
     let longer : Reading = extended sofar (block ∷ []) in
-    let c = others next (after mark block) longer (sofar-more buffer mark sofar request block s a) in
-    let outcome : Outcome = appends ours next (after mark block) requests in
+    let c = others next (after mark block) longer (sofar-more buffer mark sofar block s a) in
+    let outcome : Outcome = appends ours next (after mark block) asked in
     let end : ℕ = mark .offset + length (image block) in
     let grows : end ≤ outcome .mark .offset = c .grows in
     record {
       blocks = block ∷ c .blocks;
       judged =
-          accepted (admitted-permits buffer mark sofar request block s a)
-          (subst (λ (room : ℕ). Judged room longer requests (outcome .answers) (c .blocks))
+          accepted (admitted-permits buffer mark sofar block s a)
+          (subst (λ (room : ℕ). Judged room longer asked (outcome .answers) (c .blocks))
           (length-put buffer (mark .offset) (image block)) (c .judged));
       stands = subst (Sofar (outcome .buffer) (outcome .mark)) (extended-twice sofar block (c .blocks)) (c .stands);
       grows = omega arith;
@@ -83,17 +82,17 @@ step request requests others buffer mark sofar s (one.accepted block a) =
           c .rest
           ∙ drop-later end (outcome .mark .offset) next buffer grows (drop-put buffer (mark .offset) (image block) end (omega arith));
     }
-step request requests others buffer mark sofar s (one.refused refusal n) =
+step block asked others buffer mark sofar s (one.refused refusal n) =
     let c = others buffer mark sofar s in
     record {
       blocks = c .blocks;
-      judged = refused (λ block p. n block (permits-admitted buffer mark sofar request block s p)) (c .judged);
+      judged = refused (λ p. n (permits-admitted buffer mark sofar block s p)) (c .judged);
       stands = c .stands;
       grows = c .grows;
       rest = c .rest;
     }
 
-pub claimed : (requests : List Request) → All Sized requests → ClaimedOf requests
+pub claimed : (asked : List Block) → All Sized asked → ClaimedOf asked
 unfolding appends
 claimed [] sized buffer mark sofar s =
     record {
@@ -103,8 +102,8 @@ claimed [] sized buffer mark sofar s =
       grows = omega arith;
       rest = refl;
     }
-claimed (request ∷ requests) sized buffer mark sofar s =
-    step request requests (claimed requests (sized .1)) buffer mark sofar s (appended buffer mark request (sized .0))
+claimed (block ∷ asked) sized buffer mark sofar s =
+    step block asked (claimed asked (sized .1)) buffer mark sofar s (appended buffer mark block (sized .0))
 
 -- Earlier blocks.
 

@@ -13,14 +13,17 @@ use borrow.Author.Tests.{le-ltb, eq-eqb, ne-eqb}
 use Rattle.checks.proofs.First.{option-cases, none-some}
 use Rattle.format.specs.declared.Extent.{Extent}
 use Rattle.format.specs.Extents.{KeepsPosition}
-use Rattle.extent.specs.Extents.{extentAt, isSound}
+use Rattle.extent.specs.Extents.{extentAt}
+use Rattle.extent.specs.inner.Tests.{isSound}
 use Rattle.extent.proofs.Sound.{sound-bounded, each-sound}
 use Rattle.block.specs.Fields.{sizeAt, restAt}
-use Rattle.runs.specs.Positions.{keeps, storedAt, keeper}
+use Rattle.runs.specs.Positions.{keeps, keeper}
+use Rattle.runs.specs.inner.Stored.{storedAt}
 use Rattle.runs.proofs.Stored.{keeps-position, position-keeps, StoredPlace, stored-place}
 use Rattle.runs.proofs.Keeper.{keeper-some, one-keeper, some-keeper}
 use Rattle.runs.proofs.Labels.{label-none, label-some}
-use Rattle.lookup.specs.Lookup.{placeFor, lookupFault, positionAnswer}
+use Rattle.lookup.specs.inner.Answers.{placeFor, positionAnswer}
+use Rattle.lookup.specs.Lookup.{lookupFault}
 use Rattle.lookup.specs.declared.PositionAnswer.the-variants.{PastEnd}
 use Rattle.lookup.proofs.Clear.{RegularFile, Clear, a-lookup-without-a-fault-is-clear}
 use Rattle.lookup.proofs.Answers.{position-refused, runs-refused, room-kept}

@@ -9,13 +9,13 @@ use lib.Seq.{length-take-le}
 use Rattle.number.specs.Number.{Bytes}
 use Rattle.number.proofs.Digits.{bytes-take}
 use Rattle.format.specs.Layout.{All}
+use Rattle.format.specs.Blocks.{Block}
 use Rattle.format.specs.Readings.{Reading, images, ReadingOf}
 use Rattle.block.specs.Order.{volumeLimit}
-use Rattle.request.specs.Requests.{Request}
 use Rattle.request.specs.Asking.{Sized}
 use Rattle.volume.specs.declared.Bookmark.{Bookmark}
-use Rattle.request.proofs.Asked.{one-block}
-use Rattle.request.proofs.Sizes.{rules-sized}
+use Rattle.links.proofs.Tables.{links-unique}
+use Rattle.request.proofs.Rules.{rules-sized}
 use Rattle.claims.specs.Library.{ours}
 use Rattle.claims.specs.Demand3Reading.{ReaderGives}
 use Rattle.claims.specs.Demand3.{Outcome, appends, written, VolumeClaim, Start, extended, AcceptedVolume, AppendsClaim, Demand3}
@@ -45,12 +45,12 @@ volume-claim volume b small =
       afresh = λ reading buffer r room. fresh volume reading buffer small r room;
     }
 
-appends-claim : (buffer : List ℕ) (mark : Bookmark) (sofar : Reading) (requests : List Request) → Bytes buffer → All Sized requests
-    → Start ours buffer mark sofar → AppendsClaim ours buffer mark sofar requests (appends ours buffer mark requests)
-appends-claim buffer mark sofar requests b sized start =
+appends-claim : (buffer : List ℕ) (mark : Bookmark) (sofar : Reading) (asked : List Block) → Bytes buffer → All Sized asked
+    → Start ours buffer mark sofar → AppendsClaim ours buffer mark sofar asked (appends ours buffer mark asked)
+appends-claim buffer mark sofar asked b sized start =
     let s : Sofar buffer mark sofar = start-stands buffer mark sofar b start in
-    let outcome : Outcome = appends ours buffer mark requests in
-    let c : Claimed buffer mark sofar requests outcome = claimed requests sized buffer mark sofar s in
+    let outcome : Outcome = appends ours buffer mark asked in
+    let c : Claimed buffer mark sofar asked outcome = claimed asked sized buffer mark sofar s in
     let t : Sofar (outcome .buffer) (outcome .mark) (extended sofar (c .blocks)) = c .stands in
     let old : List ℕ = take (mark .offset) buffer in
     let bytes : written outcome ≡ old ++ images (c .blocks)
@@ -81,7 +81,7 @@ demand-3-holds =
       volumes = volume-claim;
       refused-volumes = refused-volumes;
       lists-of-appends = appends-claim;
-      one-block-asked-for = λ request a b p k q l. one-block request a b (record { asks = p; keeps = k }) (record { asks = q; keeps = l });
+      one-list-of-links = λ count bytes a b. links-unique a b;
       every-block-can-be-asked-for = rules-sized;
       every-header-can-be-asked-for = header-sized;
     }

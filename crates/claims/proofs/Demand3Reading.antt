@@ -10,7 +10,7 @@ use Rattle.number.proofs.Parts.{drop-past}
 use Rattle.format.specs.Blocks.{Block}
 use Rattle.format.specs.Headers.{Header, headerImage}
 use Rattle.format.specs.Readings.{Reading, Keeps, images, volumeOf, ReadingOf, HasReading}
-use Rattle.volume.specs.Heading.{idOf, sequenceOf, previousOf, headerFault, firstMark, headerAnswer, partAnswer}
+use Rattle.volume.specs.Heading.{headerBytes, sequenceOf, headerFault, firstMark, headerAnswer, partAnswer}
 use Rattle.volume.specs.Checking.{Checked, refused-at-the-header, after-the-header}
 use Rattle.volume.specs.inner.Check.{checkAnswer}
 use Rattle.volume.specs.declared.Bookmark.{Bookmark}
@@ -50,8 +50,8 @@ given volume reading end g =
     let h = header-given volume _ (g .header) in
     let sequence : sequenceOf volume ≡ reading .header .sequence = ap (λ a. a .sequence) (h .1) in
     let mark : firstMark (sequenceOf volume) ≡ g .first = ap (λ a. a .next) (h .1) in
-    let id : idOf volume ≡ reading .header .id = rw (h .0) at (g .id) in
-    let previous : previousOf volume ≡ reading .header .previous = rw (h .0) at (g .previous) in
+    let id : headerBytes "file system ID" volume ≡ reading .header .id = rw (h .0) at (g .id) in
+    let previous : headerBytes "previous hash" volume ≡ reading .header .previous = rw (h .0) at (g .previous) in
     record {
       no-fault = h .0;
       same-header = λ i. record { id = id i; sequence = sequence i; previous = previous i };

@@ -20,8 +20,10 @@ use Rattle.format.specs.Headers.{Header}
 use Rattle.block.specs.Fields.{sizeAt}
 use Rattle.volume.specs.Heading.{sequenceOf, headerFault}
 use Rattle.volume.proofs.HeaderImage.{headerAt, HeaderStands, header-sound, HeaderShown, header-complete}
-use Rattle.lookup.specs.Lookup.{lookupFault, positionAnswer, runsAnswer, runsRoom}
-use Rattle.lookup.specs.Fetch.{chosen, outOf, fetchPart, fetchAddress}
+use Rattle.lookup.specs.Lookup.{lookupFault}
+use Rattle.lookup.specs.inner.Answers.{positionAnswer, runsAnswer, runsRoom}
+use Rattle.lookup.specs.Fetch.{chosen, outOf}
+use Rattle.lookup.specs.inner.Part.{fetchPart, fetchAddress}
 use Rattle.lookup.proofs.Fetch.{range-decides, fetch-passed, chosen-first, chosen-second}
 use Rattle.lookup.proofs.Fetch.{second-has, Held, held-in-first, held-in-second}
 use Rattle.lookup.specs.declared.Stored.{Stored}

@@ -13,23 +13,26 @@ use borrow.Author.Tests.{ltb-false, eqb-true, not-false, le-ltb, lt-leb, eq-eqb}
 use Rattle.number.specs.Number.{Bytes, part}
 use Rattle.number.proofs.Digits.{bytes-drop}
 use Rattle.number.proofs.Parts.{length-part, bytes-part, drop-part}
-use Rattle.checks.specs.Checks.{check, firstFault, clear, miss}
+use Rattle.checks.specs.Checks.{firstFault, clear, miss}
 use Rattle.checks.proofs.Laws.{decided, rest, none-append}
 use Rattle.checks.proofs.Scan.{any-nowhere}
 use Rattle.order.proofs.Cases.{cases}
 use Rattle.format.specs.declared.Extent.{Extent}
 use Rattle.format.specs.Layout.{laid}
 use Rattle.format.specs.Extents.{extentWidths, extentFields, keptLength, footprint}
-use Rattle.format.specs.Blocks.{Block, inodeBlock, idOf, kindOf, fields, image, regular, fileType}
-use Rattle.format.proofs.Fields.{valuesIn, laid-values, values-listed}
+use Rattle.format.specs.Blocks.{InodeFields, Block, Inode, inodeBlock, idOf, fields, image, regular, fileType}
+use Rattle.format.proofs.Fields.{laid-values}
 use Rattle.extent.specs.Extents.{extentAt}
-use Rattle.extent.proofs.Sound.{each-sound, sound-rules, fields-fit}
-use Rattle.block.specs.Fields.{idAt, kindWith, kindAt, before, bodyLength, typeAt, restAt}
-use Rattle.block.specs.Order.{volumeLimit, unknownId, wrongPlace, kindOrder}
+use Rattle.extent.proofs.Sound.{each-sound, sound-rules}
+use Rattle.extent.proofs.ListRules.{fields-stand, fields-fit}
+use Rattle.block.specs.Fields.{idAt, kindWith, kindAt, fixedLength, fieldAt, bodyLength, typeAt, sizeAt, restAt}
+use Rattle.block.specs.Order.{unknownId, wrongPlace, kindOrder, blockOrder}
 use Rattle.block.specs.Shown.{blockOf, shown}
 use Rattle.block.proofs.Ids.{id-known, kind-known}
+use Rattle.block.proofs.Passed.{block-numbered, passed-block}
 use Rattle.block.proofs.BlockImage.{Stands, block-sound, Reads, block-complete, length-image}
-use Rattle.lookup.specs.Lookup.{entryCount, lengthOf, lengthsWrong, notFile, isFile, isAbsent, someAbsent, someStray, lookupFault}
+use Rattle.lookup.specs.Lookup.{entryCount, lengthOf, lengthsWrong, notFile, isFile, isAbsent, someAbsent, openOrder, extentsOrder, lookupFault}
+use Rattle.lookup.proofs.Deciding.{open-numbered}
 use Rattle.lookup.proofs.Clear.{RegularFile, Clear, each-present, present}
 use Rattle.lookup.proofs.Stray.{none-stray}
 use Rattle.claims.specs.Demand2.{extentsIn, extentOf, IsFile, IsThere, AllIsThere}
@@ -44,12 +47,7 @@ not-absent lengths e there =
     rw (lt-leb (entryCount lengths) (e .volume) (t .0), le-ltb (lengthOf lengths (e .volume)) (e .start .0 + footprint e) (t .1), and-false))
     (λ none. rw (le-ltb 0 (keptLength e) none))
 
--- the fields of an extent stand where it is read
-fields-stand : (list : List ℕ) (index : ℕ) → extentFields (extentAt list index) ≡ valuesIn extentWidths (drop (57 * index) list)
-unfolding extentAt
-fields-stand list index = sym (rw (values-listed extentWidths list (57 * index), add-zero (57 * index)))
-
--- so its 57 bytes are its fields, laid out
+-- the 57 bytes of an extent are its fields, laid out
 extent-stands : (list : List ℕ) (index : ℕ) → Bytes list → 57 * index + 57 ≤ length list
     → part list (57 * index) 57 ≡ laid extentWidths (extentFields (extentAt list index))
 extent-stands list index b h =
@@ -61,11 +59,29 @@ module _ (volume : List ℕ) (offset : ℕ) (b : Bytes volume) (p : RegularFile 
   list = restAt volume offset
 
   list-whole : length list ≡ 57 * extentsIn volume offset
+  unfolding bodyLength
   list-whole =
       let n : ℕ = bodyLength inodeBlock volume offset in
       let within = p .whole in
-      let l : length list ≡ n = length-part volume (offset + before inodeBlock) n (omega arith) in
+      let l : length list ≡ n = length-part volume (offset + fixedLength inodeBlock) n (omega arith) in
       omega (arith, p .entire)
+
+  -- the inode that is read there
+  abbrev inodeAt : InodeFields
+  inodeAt =
+      record {
+        inode = fieldAt inodeBlock "inode" volume offset;
+        time = fieldAt inodeBlock "time" volume offset;
+        mode = fieldAt inodeBlock "mode" volume offset;
+        uid = fieldAt inodeBlock "uid" volume offset;
+        gid = fieldAt inodeBlock "gid" volume offset;
+        atime = fieldAt inodeBlock "atime" volume offset;
+        mtime = fieldAt inodeBlock "mtime" volume offset;
+        ctime = fieldAt inodeBlock "ctime" volume offset;
+        btime = fieldAt inodeBlock "btime" volume offset;
+        size = sizeAt volume offset;
+        rest = restAt volume offset;
+      }
 
   pub file-stands : IsFile volume offset
   unfolding shown blockOf bodyLength
@@ -73,15 +89,14 @@ module _ (volume : List ℕ) (offset : ℕ) (b : Bytes volume) (p : RegularFile 
       let id : idAt volume offset ≡ idOf inodeBlock = sym (id-known (idAt volume offset) (p .block .known)) ∙ ap idOf (p .kind) in
       let s : Stands inodeBlock volume offset (shown volume (blockOf inodeBlock volume offset))
       = block-sound inodeBlock volume offset b id (p .own) in
-      let bytes : Bytes list = bytes-part volume (offset + before inodeBlock) (bodyLength inodeBlock volume offset) b in
+      let bytes : Bytes list = bytes-part volume (offset + fixedLength inodeBlock) (bodyLength inodeBlock volume offset) b in
       record {
-        block = shown volume (blockOf inodeBlock volume offset);
+        inode = inodeAt;
         keeps = s .keeps;
         stands = s .same;
-        inode = refl;
         type = p .type;
         size = refl;
-        list = rw (add-zero (offset + before inodeBlock));
+        list = refl;
         whole = list-whole;
         each = λ index h. extent-stands list index bytes (omega (arith, list-whole));
         rules = λ index h. sound-rules (extentAt list index) (each-sound list (p .sound) index h) (fields-fit list bytes index);
@@ -111,7 +126,7 @@ all-is-there volume offset lengths b p =
 -- The other way: where a regular file's inode block stands and its extents are there, no check is at fault.
 module _ (volume : List ℕ) (offset : ℕ) (lengths : List ℕ) (m : AllIsThere volume offset lengths) where
   abbrev block : Block
-  block = m .file .block
+  block = Inode (m .file .inode)
 
   image-stands : drop offset volume ≡ image block ++ drop (offset + length (image block)) volume
   image-stands =
@@ -128,47 +143,39 @@ module _ (volume : List ℕ) (offset : ℕ) (lengths : List ℕ) (m : AllIsThere
       omega (arith, l, length-image block (m .file .keeps))
 
   kind-is : kindAt volume offset ≡ inodeBlock
-  kind-is = ap kindWith (reads .id) ∙ kind-known (kindOf block) .0 ∙ m .file .inode
+  kind-is = ap kindWith (reads .id) ∙ kind-known inodeBlock .0
 
   type-is : typeAt volume offset ≡ regular
   unfolding shown blockOf
   type-is =
-      let same : shown volume (blockOf inodeBlock volume offset) ≡ block = rw (m .file .inode) at (reads .same) in
-      ap (λ b. fileType (getD (fields b) 2 0)) same ∙ m .file .type
+      ap (λ b. fileType (getD (fields b) 2 0)) (reads .same) ∙ m .file .type
 
   entries-right : lengthsWrong lengths ≡ false
   unfolding lengthsWrong
   entries-right = rw (eq-eqb (length lengths % 8) 0 (m .whole-entries), le-ltb 4096 (entryCount lengths) (m .few-entries))
 
-  later-clear : firstFault (check (notFile volume offset) 15 ∷ check (someAbsent lengths (restAt volume offset)) 16 ∷ check (someStray (restAt volume offset)) 18 ∷ []) ≡ 0
-  unfolding notFile someAbsent
-  later-clear =
-      let file : not (isFile (kindAt volume offset) (typeAt volume offset)) ≡ false = rw (kind-is, type-is) in
+  extents-clear : firstFault (extentsOrder lengths (restAt volume offset)) ≡ 0
+  unfolding someAbsent
+  extents-clear =
       sym (
       decided (
-      miss file
-      (miss (any-nowhere _ (extentsIn volume offset) (λ i h. not-absent lengths (extentOf volume offset i) (m .there i h)))
-      (miss (none-stray (restAt volume offset)) clear))
+      miss (any-nowhere _ (extentsIn volume offset) (λ i h. not-absent lengths (extentOf volume offset i) (m .there i h)))
+      (miss (none-stray (restAt volume offset)) clear)
       )
       )
 
   pub no-fault : lookupFault volume offset lengths ≡ 0
-  unfolding lookupFault
+  unfolding lookupFault notFile
   no-fault =
-      let id : idAt volume offset ≡ 1 = reads .id ∙ ap idOf (m .file .inode) in
+      let id : idAt volume offset ≡ 1 = reads .id in
       let known : unknownId (idAt volume offset) ≡ false = rw id in
       let place : wrongPlace false (idAt volume offset) ≡ false = rw id in
-      let own : firstFault (kindOrder (kindAt volume offset) volume offset) ≡ 0
-      = rw kind-is (rw (m .file .inode) at (reads .no-fault)) in
-      let all = none-append (kindOrder (kindAt volume offset) volume offset) _ tt own later-clear in
-      sym (
-      decided (
-      miss entries-right
-      (miss (le-ltb volumeLimit (length volume) (m .small))
-      (miss (le-ltb offset 80 (m .after-the-header))
-      (miss (lt-leb (length volume) offset more)
-      (miss known
-      (miss place
-      (rest (sym all)))))))
-      )
-      )
+      let own : firstFault (kindOrder (kindAt volume offset) volume offset) ≡ 0 = rw kind-is (reads .no-fault) in
+      let file : not (isFile (kindAt volume offset) (typeAt volume offset)) ≡ false = rw (kind-is, type-is) in
+      let block-clear : firstFault (blockOrder volume offset false) ≡ 0
+      = passed-block volume offset false
+      (record { small = m .small; base = m .after-the-header; more = more; known = known; place = place; own = own }) in
+      let opening : firstFault (openOrder volume offset lengths) ≡ 0
+      = sym (decided (miss entries-right (rest (sym (none-append (blockOrder volume offset false) _ (block-numbered volume offset false)
+      block-clear (sym (decided (miss file clear)))))))) in
+      none-append (openOrder volume offset lengths) _ (open-numbered volume offset lengths) opening extents-clear

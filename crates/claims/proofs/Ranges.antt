@@ -17,15 +17,16 @@ use Rattle.checks.proofs.First.{option-cases}
 use Rattle.refusal.specs.Refusal.{refusalOf}
 use Rattle.block.specs.Fields.{sizeAt, restAt}
 use Rattle.runs.specs.Positions.{keeper}
-use Rattle.runs.specs.Runs.{runLengths, runNumbers, runCount, rangeNumbers}
-use Rattle.runs.specs.Answers as runs
-use Rattle.runs.specs.Agree.{Agrees, over, holeFirst, storedFirst}
+use Rattle.runs.specs.inner.Computed.{runLengths, runNumbers, runCount, rangeNumbers}
+use Rattle.runs.specs.inner.Answers as runs
 use Rattle.runs.specs.declared.Place.{Place}
 use Rattle.runs.specs.declared.Place.the-variants as place
 use Rattle.runs.proofs.Meaning.{runs-are-runs, runs-only}
-use Rattle.runs.proofs.Agree.{runs-agree-with-positions}
+use Rattle.runs.proofs.Agree.{Agrees, over, holeFirst, storedFirst, runs-agree-with-positions}
 use Rattle.runs.proofs.Fill.{numbers-long}
-use Rattle.lookup.specs.Lookup.{placeFor, lookupOrder, lookupFault, positionAnswer, runsFault, runsAnswer, runsRoom}
+use Rattle.lookup.proofs.Deciding.{lookup-numbered}
+use Rattle.lookup.specs.inner.Answers.{placeFor, positionAnswer, runsAnswer, runsRoom}
+use Rattle.lookup.specs.Lookup.{lookupOrder, lookupFault, runsFault}
 use Rattle.lookup.specs.declared.PositionAnswer.{PositionAnswer}
 use Rattle.lookup.specs.declared.PositionAnswer.the-variants.{Hole, Stored}
 use Rattle.lookup.specs.declared.RunsAnswer.the-variants.{Runs, Refused}
@@ -103,7 +104,9 @@ module _ (volume : List ℕ) (offset : ℕ) (lengths : List ℕ) (clear : lookup
     -- after the checks of a lookup, only the room is left to be checked
     fault-is : (room : ℕ) → runsFault volume offset lengths from to room ≡ cond (ltb room (5 * length lens)) 17 0
     unfolding runsFault lookupFault firstFault runCount
-    fault-is room = firstFault-append (lookupOrder volume offset lengths) (check (ltb room (5 * length lens)) 17 ∷ []) tt ∙ rw clear
+    fault-is room =
+        firstFault-append (lookupOrder volume offset lengths) (check (ltb room (5 * length lens)) 17 ∷ [])
+        (lookup-numbered volume offset lengths) ∙ rw clear
 
     pub room-enough : (out : List ℕ) → 5 * length lens ≤ length out
         → (runsAnswer volume offset lengths from to (length out) ≡ Runs (length lens))

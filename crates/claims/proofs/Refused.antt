@@ -4,7 +4,7 @@ use mathlib.Core.Path.{_≡_, sym, subst}
 use mathlib.Core.List.{List}
 use native.Mathlib.Nat.{zero-add}
 use lib.ListN.{length}
-use Rattle.volume.specs.Checking.{CheckedFrom, Checked, refused-at-the-header, after-the-header}
+use Rattle.volume.specs.Checking.{Checked, refused-at-the-header, after-the-header}
 use Rattle.volume.specs.declared.Rejected.{Rejected}
 use Rattle.volume.specs.declared.Verdict.{Verdict}
 use Rattle.volume.specs.declared.Verdict.the-variants as verdict
@@ -15,11 +15,8 @@ use Rattle.claims.proofs.Reader.{check-stops, Told, told}
 
 refused-as-the-reader : {volume : List ℕ} {rejected : Rejected} → RefusedAt ours volume rejected → Checked volume (verdict.Refused rejected)
 refused-as-the-reader (at-the-header e) = refused-at-the-header e
-refused-as-the-reader {volume} (at-a-block {header = header} {blocks = blocks} {at = at} {refusal = refusal} e stops) =
-    let later : CheckedFrom volume (header .sequence) (header .next) 0
-    (verdict.Refused (record { refusal = refusal; offset = at .offset; blocks = length blocks }))
-    = rw (← zero-add (length blocks)) (check-stops (header .sequence) 0 stops) in
-    after-the-header e later
+refused-as-the-reader (at-a-block {header = header} {blocks = blocks} e stops) =
+    rw (← zero-add (length blocks)) (after-the-header e (check-stops (header .sequence) 0 stops))
 
 refused-there : {volume : List ℕ} {answer : Verdict} (rejected : Rejected) → Checked volume answer → answer ≡ verdict.Refused rejected
     → RefusedAt ours volume rejected

@@ -20,9 +20,10 @@ use Rattle.format.specs.Blocks.{inodeBlock, widths, fields, image}
 use Rattle.format.specs.Headers.{headerFields, headerImage}
 use Rattle.format.specs.Readings.{images, volumeOf}
 use Rattle.format.proofs.Seal.{part-sealed}
-use Rattle.extent.specs.Extents.{extentAt, isSound, someBroken, shareRange, someOverlap}
+use Rattle.extent.specs.Extents.{extentAt}
+use Rattle.extent.specs.inner.Tests.{isSound, someBroken, shareRange, someOverlap}
 use Rattle.block.specs.Fields.{kindWith, bodyLength, sizeAt, restAt}
-use Rattle.block.specs.Order.{volumeLimit, overCount, sumWrong, notText, ruleBroken, rangesOverlap, linkTwice}
+use Rattle.block.specs.Order.{volumeLimit, checksumWrong}
 use Rattle.block.specs.Shown.{blockOf, shown}
 use Rattle.volume.specs.Heading.{headerFault, headerAnswer}
 use Rattle.volume.specs.Reading.{isEnd, mayFollow, readOrder, readFault, readAnswer}
@@ -31,10 +32,13 @@ use Rattle.volume.specs.declared.HeaderAnswer.the-variants as HeaderAnswer
 use Rattle.volume.specs.declared.ReadAnswer.the-variants.{Found}
 use Rattle.volume.specs.declared.Verdict.the-variants as Verdict
 use Rattle.volume.proofs.Steps.{foundAt, refusal-read, found-read}
-use Rattle.runs.specs.Positions.{keeps, storedAt, copyOf, keeper}
-use Rattle.runs.specs.Runs.{label, joins, runsOf, runLengths, runNumbers, rangeNumbers}
+use Rattle.runs.specs.Positions.{keeps, copyOf, keeper}
+use Rattle.runs.specs.inner.Stored.{storedAt}
+use Rattle.runs.specs.Runs.{label}
+use Rattle.runs.specs.inner.Computed.{joins, runsOf, runLengths, runNumbers, rangeNumbers}
 use Rattle.runs.proofs.Fill.{numbers-long}
-use Rattle.lookup.specs.Lookup.{lengthsWrong, notFile, isAbsent, someAbsent, isStray, someStray, lookupOrder, lookupFault, positionAnswer}
+use Rattle.lookup.specs.Lookup.{lengthsWrong, notFile, isAbsent, someAbsent, isStray, someStray, lookupOrder, lookupFault}
+use Rattle.lookup.specs.inner.Answers.{positionAnswer}
 use Rattle.lookup.specs.declared.PositionAnswer.the-variants.{PastEnd}
 use Rattle.claims.specs.Demand2.{KeptBy}
 use Rattle.claims.specs.Samples.{EveryRowHolds, Holds, readRefuses, positionIs, runsAre, runsRefuse, File, inode, withFile, afterV, lengths, fileA, fileB, large, empty, touching, overlapping}
@@ -61,15 +65,15 @@ without (suc k) (check false number ∷ checks) e = without k checks e
 
 -- the CRC of bytes that stand sealed is not wrong
 seal-right : (volume bytes rest : List ℕ) (offset len : ℕ) → drop offset volume ≡ sealed bytes ++ rest → length bytes ≡ len
-    → sumWrong volume offset (offset + len) ≡ false
-unfolding sumWrong
+    → checksumWrong volume offset (offset + len) ≡ false
+unfolding checksumWrong
 seal-right volume bytes rest offset len e l = rw add-sub-cancel-left (eq-neb _ _ (part-sealed volume bytes rest offset len e l))
 
 -- so that of a file's inode block is not: these bytes stand before it
 abbrev content : File → List ℕ
 content file = 1 ∷ laid (widths inodeBlock) (fields (inode file)) ++ extentList (file .extents)
 
-sum-right : (file : File) → sumWrong (withFile file) 104 (104 + length (content file)) ≡ false
+sum-right : (file : File) → checksumWrong (withFile file) 104 (104 + length (content file)) ≡ false
 unfolding volumeOf images image headerImage headerFields laid leBytes sealed
 sum-right file = seal-right (withFile file) (content file) [] 104 (length (content file)) refl refl
 
@@ -83,7 +87,7 @@ module _ (file : File) where
   abbrev readOthers : ℕ
   readOthers = firstFault (take 8 (readOrder volume afterV) ++ drop 9 (readOrder volume afterV))
 
-  module _ (more : isEnd volume afterV ≡ false) (same : faultAt 8 (readOrder volume afterV) ≡ sumWrong volume 104 (104 + length (content file))) where
+  module _ (more : isEnd volume afterV ≡ false) (same : faultAt 8 (readOrder volume afterV) ≡ checksumWrong volume 104 (104 + length (content file))) where
     fault-is : readFault volume afterV ≡ readOthers
     unfolding readFault
     fault-is = without 8 (readOrder volume afterV) (same ∙ sum-right file)
@@ -98,7 +102,7 @@ module _ (file : File) where
   abbrev lookupOthers : ℕ
   lookupOthers = firstFault (take 9 (lookupOrder volume 104 lengths) ++ drop 10 (lookupOrder volume 104 lengths))
 
-  module _ (same : faultAt 9 (lookupOrder volume 104 lengths) ≡ sumWrong volume 104 (104 + length (content file))) (none : lookupOthers ≡ 0) where
+  module _ (same : faultAt 9 (lookupOrder volume 104 lengths) ≡ checksumWrong volume 104 (104 + length (content file))) (none : lookupOthers ≡ 0) where
     clear : lookupFault volume 104 lengths ≡ 0
     unfolding lookupFault
     clear = without 9 (lookupOrder volume 104 lengths) (same ∙ sum-right file) ∙ none
@@ -129,7 +133,7 @@ row a b = (a, b)
 
 pub every-row-holds : EveryRowHolds
 unfolding volumeOf images image headerImage headerFields sealed laid leBytes extentList le firstFault anyBelow firstBelow
-    kindWith bodyLength overCount notText ruleBroken rangesOverlap linkTwice extentAt someBroken isSound someOverlap shareRange
+    kindWith bodyLength extentAt someBroken isSound someOverlap shareRange
     isEnd mayFollow blockOf shown lengthsWrong notFile someAbsent isAbsent someStray isStray
     keeper keeps storedAt copyOf label joins runsOf runLengths runNumbers rangeNumbers
 every-row-holds =
@@ -156,13 +160,13 @@ every-row-holds =
 -- File A keeps position 0, and file B does not keep it; no lookup in either is refused.
 pub a-clear : lookupFault (withFile (fileA 0)) 104 lengths ≡ 0
 unfolding volumeOf images image headerImage headerFields sealed laid leBytes extentList le firstFault anyBelow
-    kindWith bodyLength overCount notText ruleBroken rangesOverlap linkTwice extentAt someBroken isSound someOverlap shareRange
+    kindWith bodyLength extentAt someBroken isSound someOverlap shareRange
     lengthsWrong notFile someAbsent isAbsent someStray isStray
 a-clear = clear (fileA 0) refl refl
 
 pub b-clear : lookupFault (withFile fileB) 104 lengths ≡ 0
 unfolding volumeOf images image headerImage headerFields sealed laid leBytes extentList le firstFault anyBelow
-    kindWith bodyLength overCount notText ruleBroken rangesOverlap linkTwice extentAt someBroken isSound someOverlap shareRange
+    kindWith bodyLength extentAt someBroken isSound someOverlap shareRange
     lengthsWrong notFile someAbsent isAbsent someStray isStray
 b-clear = clear fileB refl refl
 

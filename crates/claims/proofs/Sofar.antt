@@ -14,7 +14,6 @@ use Rattle.format.specs.Headers.{headerImage, HeaderRules}
 use Rattle.format.specs.Readings.{Reading, TableRule, Keeps, images, volumeOf}
 use Rattle.block.specs.Order.{volumeLimit}
 use Rattle.volume.specs.Heading.{firstMark}
-use Rattle.request.specs.Requests.{Request}
 use Rattle.volume.specs.declared.Bookmark.{Bookmark}
 use Rattle.volume.proofs.OneCall.{Allowed, after}
 use Rattle.claims.specs.Demand3.{extended, Permits, NoTableDue}
@@ -126,7 +125,7 @@ keeps-follow reading k =
     runs-follow (startOf reading) (reading .blocks)
     (volume-runs (reading .header .sequence) (reading .blocks) (k .each, k .table, k .times))
 
-module _ (buffer : List ℕ) (mark : Bookmark) (sofar : Reading) (request : Request) (block : Block) (s : Sofar buffer mark sofar) where
+module _ (buffer : List ℕ) (mark : Bookmark) (sofar : Reading) (block : Block) (s : Sofar buffer mark sofar) where
   longer : length (volumeOf (extended sofar (block ∷ []))) ≡ mark .offset + length (image block)
   longer =
       let e : volumeOf (extended sofar (block ∷ [])) ≡ take (mark .offset) buffer ++ image block
@@ -134,7 +133,7 @@ module _ (buffer : List ℕ) (mark : Bookmark) (sofar : Reading) (request : Requ
       ap length e ∙ length-append (take (mark .offset) buffer) (image block)
       ∙ ap (λ (n : ℕ). n + length (image block)) (length-take-le (mark .offset) buffer (s .room))
 
-  pub sofar-more : Admitted (length buffer) mark request block
+  pub sofar-more : Admitted (length buffer) mark block
       → Sofar (put buffer (mark .offset) (image block)) (after mark block) (extended sofar (block ∷ []))
   sofar-more a =
       let fits : mark .offset + length (image block) ≤ length buffer = a .fits in
@@ -151,22 +150,20 @@ module _ (buffer : List ℕ) (mark : Bookmark) (sofar : Reading) (request : Requ
             ∙ rw (s .same) (sym (volume-more sofar (block ∷ []) ∙ rw (image-alone block)));
       }
 
-  pub admitted-permits : Admitted (length buffer) mark request block → Permits (length buffer) sofar request block
+  pub admitted-permits : Admitted (length buffer) mark block → Permits (length buffer) sofar block
   admitted-permits a =
       let l = longer in
       record {
-        asks = a .asks;
         keeps = sofar-keeps _ (after mark block) (extended sofar (block ∷ [])) (sofar-more a) refl;
         with-room = rw l (a .fits);
         within-size = rw l (a .small);
       }
 
-  pub permits-admitted : Permits (length buffer) sofar request block → Admitted (length buffer) mark request block
+  pub permits-admitted : Permits (length buffer) sofar block → Admitted (length buffer) mark block
   permits-admitted p =
       let l = longer in
       let f = keeps-follow (extended sofar (block ∷ [])) (p .keeps) in
       record {
-        asks = p .asks;
         allowed = subst (λ m. Allowed m block) (sym (s .mark-after)) (follow-last _ (sofar .blocks) block f);
         base = s .base;
         small = rw l at (p .within-size);

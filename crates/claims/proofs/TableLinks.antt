@@ -1,44 +1,28 @@
 -- The links of a table are what is claimed of them: they fill its part, from the first byte to the last. Assumes nothing.
-use Prim.Native.Nat.{ℕ, _≤_}
-use mathlib.Core.Path.{_≡_, sym, ap, _∙_, subst}
+use Prim.Native.Nat.{ℕ}
+use mathlib.Core.Path.{sym, subst}
 use mathlib.Core.List.{List}
 use native.Mathlib.Omega.{arith}
-use lib.ListN.{length}
-use Rattle.number.specs.Number.{Bytes}
-use Rattle.number.proofs.Parts.{bytes-part}
-use Rattle.format.specs.Blocks as format
-use Rattle.format.specs.Blocks.{TableLink}
-use Rattle.links.specs.Links.{linkStart, linksFrom}
+use Rattle.format.specs.Blocks.{LinksOf}
 use Rattle.links.proofs.Answers.{not-so-many}
-use Rattle.links.proofs.Lists.{length-links}
-use Rattle.links.proofs.Walks.{shown-by-number, walked-to-the-end, filled-list}
-use Rattle.block.specs.Shown.{bytesOf, shown}
-use Rattle.block.specs.declared.TableBlock.{TableBlock}
-use Rattle.block.specs.declared.Block.the-variants.{Table}
-use Rattle.block.proofs.TableLinks.{Filled}
-use Rattle.volume.proofs.TableLinks.{table-handed-out}
+use Rattle.links.proofs.Tables.{links-shown, links-fill-bytes}
+use Rattle.links.proofs.Walks.{shown-by-number, walked-to-the-end}
+use Rattle.volume.proofs.TableLinks.{table-rules}
 use Rattle.claims.specs.TableLinks.{TableClaim, TableLinks}
 
--- bytes that so many links fill
-filled-claim : (part : List ℕ) (count : ℕ) → Bytes part → linkStart part count ≡ length part
-    → TableClaim part count (linksFrom part 0 count)
-filled-claim part count b end =
+links-claim : (part : List ℕ) (count : ℕ) (of : LinksOf count part) → TableClaim part count (of .links)
+links-claim part count of =
+    let end = links-fill-bytes of in
+    let stated = of .stated in
     record {
-      part-is-the-links = filled-list part b count end;
-      count-is-theirs = sym (length-links part count);
-      by-number = λ index. shown-by-number part count index (omega arith);
-      not-so-many = λ index h. sym (not-so-many part count index (omega (arith, length-links part count)));
-      in-order = walked-to-the-end part count end;
+      part-is-the-links = sym (of .laid-out);
+      count-is-theirs = sym (of .stated);
+      by-number = λ index. rw (← links-shown of) (shown-by-number part count index (omega arith));
+      not-so-many = λ index h. sym (not-so-many part count index (omega arith));
+      in-order = rw (← links-shown of) (walked-to-the-end part count end);
     }
 
-same-links : (volume : List ℕ) (table : TableBlock) (links : List TableLink) → shown volume (Table table) ≡ format.Table links
-    → linksFrom (bytesOf volume (table .links)) 0 (table .count) ≡ links
-unfolding shown
-same-links volume table links e = cc
-
 pub table-links-hold : TableLinks
-table-links-hold volume mark found table links b e t s =
-    let filled : Filled volume table = table-handed-out volume mark found table b e t in
-    subst (TableClaim (bytesOf volume (table .links)) (table .count))
-    (same-links volume table links (rw t at s))
-    (filled-claim (bytesOf volume (table .links)) (table .count) (bytes-part volume (table .links .offset) (table .links .len) b) filled)
+table-links-hold volume mark found table b e t =
+    let of = table-rules volume mark found table b e t in
+    (of, links-claim _ _ of)

@@ -1,13 +1,13 @@
 -- Small volumes on which wrong libraries are tried, and that they have a reading. Assumes nothing.
 use Prim.Native.Nat.{ℕ, _^_, _≤_, _<_}
 use mathlib.Core.Path.{_≡_, refl, ap, _∙_}
-use mathlib.Core.List.{[], _∷_}
+use mathlib.Core.List.{List, [], _∷_}
 use native.Mathlib.Omega.{arith}
 use lib.ListN.{length, replicate, length-append}
 use Rattle.number.specs.Number.{Bytes, leBytes}
 use Rattle.utf8.specs.Grammar.{empty}
 use Rattle.format.specs.Layout.{All, laid, sealed}
-use Rattle.format.specs.Blocks.{Data, Table, idOf, linkImage, linkList, body, image, BlockRules}
+use Rattle.format.specs.Blocks.{TableLink, Block, Data, Table, idOf, linkImage, linkList, body, image, LinksOf, BlockRules}
 use Rattle.format.specs.Headers.{HeaderRules, noHash, headerFields, headerImage}
 use Rattle.format.specs.Readings.{Reading, IsTable, Keeps, images, volumeOf, ReadingOf}
 use Rattle.volume.proofs.HeaderImage.{length-header}
@@ -51,13 +51,16 @@ pub of-bare : (library : Library) → Demand3 library → VolumeClaim library (v
 of-bare library claim = of-reading library bare claim first-rules tt (omega (arith, bare-long))
 
 -- Two data blocks with two times: a reader that gives the first again gives one time twice.
-abbrev pub two : Reading
-two = record { header = first; blocks = Data 1 [] ∷ Data 2 [] ∷ [] }
+abbrev pub bareData : (time : ℕ) → Block
+bareData time = Data (record { time = time; payload = [] })
 
-pub data-rules : (time : ℕ) → time < 256 ^ 8 → BlockRules (Data time [])
+abbrev pub two : Reading
+two = record { header = first; blocks = bareData 1 ∷ bareData 2 ∷ [] }
+
+pub data-rules : (time : ℕ) → time < 256 ^ 8 → BlockRules (bareData time)
 data-rules time small = record { fit = (small, (omega arith, tt)); bytes = λ i. omega arith; rules = tt }
 
-not-table : (time : ℕ) → IsTable (Data time []) → ⊥
+not-table : (time : ℕ) → IsTable (bareData time) → ⊥
 not-table time e = let z : _≡_ {A = ℕ} 6 8 = ap idOf e in omega arith
 
 pub two-keeps : Keeps two
@@ -74,11 +77,14 @@ unfolding volumeOf images image headerImage headerFields sealed laid leBytes
 two-small = omega arith
 
 -- A table with a link from 1 to 2: in an empty part there is no such link.
+abbrev pub oneLink : List TableLink
+oneLink = record { child = 2; parent = 1; name = [] } ∷ []
+
 abbrev pub tabled : Reading
 tabled =
     record {
       header = record { id = replicate 16 0; sequence = 1; previous = noHash };
-      blocks = Table (record { child = 2; parent = 1; name = [] } ∷ []) ∷ [];
+      blocks = Table (record { count = 1; links = linkList oneLink }) ∷ [];
     }
 
 pub tabled-header : HeaderRules (tabled .header)
@@ -92,28 +98,26 @@ tabled-header =
       first = λ e. absurd (omega arith);
     }
 
-pub link-bytes : Bytes (linkList (record { child = 2; parent = 1; name = [] } ∷ []))
+pub link-bytes : Bytes (linkList oneLink)
 unfolding linkList linkImage laid leBytes all-small
-link-bytes = small-bytes (linkList (record { child = 2; parent = 1; name = [] } ∷ [])) refl
+link-bytes = small-bytes (linkList oneLink) refl
+
+one-link-rules : LinksOf 1 (linkList oneLink)
+one-link-rules =
+    record {
+      links = oneLink;
+      laid-out = refl;
+      stated = refl;
+      few = omega arith;
+      each = (record { fit = (omega arith, (omega arith, (omega arith, tt))); bytes = λ i. omega arith; text = empty }, tt);
+      distinct = (tt, tt);
+    }
 
 pub tabled-keeps : Keeps tabled
 tabled-keeps =
     record {
       header = tabled-header;
-      each = (
-        record {
-          fit = (omega arith, tt);
-          bytes = link-bytes;
-          rules = (
-            omega arith,
-            (
-              (record { fit = (omega arith, (omega arith, (omega arith, tt))); bytes = λ i. omega arith; text = empty }, tt),
-              (tt, tt),
-            ),
-          );
-        },
-        tt,
-      );
+      each = (record { fit = (omega arith, tt); bytes = link-bytes; rules = one-link-rules }, tt);
       table = (refl, tt);
       times = (tt, tt);
     }

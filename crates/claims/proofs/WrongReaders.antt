@@ -1,18 +1,18 @@
 -- Wrong readers and checks answer for some small volume what the claim does not allow. Where that needs an answer of ours, it comes
 -- from the claim that ours meets. Assumes nothing.
-use Prim.Native.Nat.{ℕ, zero, suc}
+use Prim.Native.Nat.{ℕ}
 use mathlib.Core.Path.{_≡_, refl, sym, ap, _∙_}
 use mathlib.Core.Option.{Option, some}
 use mathlib.Core.List.{List, [], _∷_}
 use native.Mathlib.Omega.{arith}
-use Rattle.number.specs.Number.{le}
+use lib.ListN.{length}
+use Rattle.number.specs.Number.{leBytes}
 use Rattle.utf8.specs.Grammar.{empty}
 use Rattle.refusal.specs.Refusal.{refusalOf}
-use Rattle.format.specs.Layout.{All}
-use Rattle.format.specs.Blocks.{Block, Inode, Link, Unlink, Xattr, RemovedXattr, Data, Rename, Table}
+use Rattle.format.specs.Layout.{All, laid}
+use Rattle.format.specs.Blocks.{linkImage, linkList, Block, Inode, Link, Unlink, Xattr, RemovedXattr, Data, Rename, Table}
 use Rattle.format.specs.Readings.{timeOf}
 use Rattle.checks.specs.Checks.{firstFault}
-use Rattle.links.specs.Links.{linkStart, linksFrom}
 use Rattle.block.specs.Shown.{blockAt, shown}
 use Rattle.block.specs.declared.Block as found
 use Rattle.block.specs.declared.Block.the-variants as kind
@@ -99,51 +99,46 @@ repeats-first claim =
     let z : _≡_ {A = ℕ} 1 2 = cc in
     omega arith
 
--- the child of a table's first link
-firstChild : Block → ℕ
-firstChild (Table (link ∷ links)) = link .child
-firstChild (Table []) = 0
-firstChild (Inode number time mode uid gid atime mtime ctime btime size rest) = 0
-firstChild (Link time child parent name) = 0
-firstChild (Unlink time child parent name) = 0
-firstChild (Xattr time number name value) = 0
-firstChild (RemovedXattr time number name) = 0
-firstChild (Data time payload) = 0
-firstChild (Rename time old new) = 0
+-- how many bytes the links of a table have
+linksLength : Block → ℕ
+linksLength (Table b) = length (b .links)
+linksLength (Inode b) = 0
+linksLength (Link b) = 0
+linksLength (Unlink b) = 0
+linksLength (Xattr b) = 0
+linksLength (RemovedXattr b) = 0
+linksLength (Data b) = 0
+linksLength (Rename b) = 0
 
-no-child : (volume : List ℕ) (b : found.Block) → firstChild (shown volume (emptyPart b)) ≡ 0
-unfolding shown linksFrom linkStart le firstChild
-no-child volume (kind.Inode b) = refl
-no-child volume (kind.Link b) = refl
-no-child volume (kind.Unlink b) = refl
-no-child volume (kind.Xattr b) = refl
-no-child volume (kind.RemovedXattr b) = refl
-no-child volume (kind.Data b) = refl
-no-child volume (kind.Rename b) = refl
-no-child volume (kind.Table b) = none (b .count)
-  where
-    none : (count : ℕ) → firstChild (Table (linksFrom [] 0 count)) ≡ 0
-    none zero = refl
-    none (suc count) = refl
+no-links : (volume : List ℕ) (b : found.Block) → linksLength (shown volume (emptyPart b)) ≡ 0
+unfolding shown linksLength
+no-links volume (kind.Inode b) = refl
+no-links volume (kind.Link b) = refl
+no-links volume (kind.Unlink b) = refl
+no-links volume (kind.Xattr b) = refl
+no-links volume (kind.RemovedXattr b) = refl
+no-links volume (kind.Data b) = refl
+no-links volume (kind.Rename b) = refl
+no-links volume (kind.Table b) = refl
 
-no-children : (volume : List ℕ) (found : Found) (a : ReadAnswer) → withoutLength a ≡ read.Found found
-    → firstChild (shown volume (found .block)) ≡ 0
-no-children volume found (read.Found other) e =
+none-found : (volume : List ℕ) (found : Found) (a : ReadAnswer) → withoutLength a ≡ read.Found found
+    → linksLength (shown volume (found .block)) ≡ 0
+none-found volume found (read.Found other) e =
     let s : record { block = emptyPart (other .block); next = other .next } ≡ found = cc in
-    rw (← ap (λ (f : Found). f .block) s) (no-child volume (other .block))
-no-children volume found read.End e = let z : _≡_ {A = ℕ} 0 1 = cc in absurd (omega arith)
-no-children volume found (read.Refused refusal) e = let z : _≡_ {A = ℕ} 0 1 = cc in absurd (omega arith)
+    rw (← ap (λ (f : Found). f .block) s) (no-links volume (other .block))
+none-found volume found read.End e = let z : _≡_ {A = ℕ} 0 1 = cc in absurd (omega arith)
+none-found volume found (read.Refused refusal) e = let z : _≡_ {A = ℕ} 0 1 = cc in absurd (omega arith)
 
-all-childless : {volume : List ℕ} {mark end : Bookmark} {blocks : List Block} → Calls handsOutNoLinks volume mark blocks end
-    → All (λ block. firstChild block ≡ 0) blocks
-all-childless (ended e) = tt
-all-childless {volume} {mark} (handed {found = found} e calls) =
-    (no-children volume found (readAnswer volume mark) e, all-childless calls)
+all-without-links : {volume : List ℕ} {mark end : Bookmark} {blocks : List Block} → Calls handsOutNoLinks volume mark blocks end
+    → All (λ block. linksLength block ≡ 0) blocks
+all-without-links (ended e) = tt
+all-without-links {volume} {mark} (handed {found = found} e calls) =
+    (none-found volume found (readAnswer volume mark) e, all-without-links calls)
 
 pub hands-out-no-links : Demand3 handsOutNoLinks → ⊥
-unfolding firstChild
+unfolding linksLength linkList linkImage laid leBytes
 hands-out-no-links claim =
     let gives = of-reading handsOutNoLinks tabled claim tabled-header (link-bytes, tt) tabled-small
     .reading .reader-gives-the-reading tabled .0 (whole tabled tabled-keeps) in
-    let none : _≡_ {A = ℕ} 2 0 = all-childless (gives .1 .blocks) .0 in
+    let none : _≡_ {A = ℕ} 18 0 = all-without-links (gives .1 .blocks) .0 in
     omega arith

@@ -8,11 +8,9 @@ use lib.ListN.{length, replicate, getD, length-append}
 use Rattle.number.proofs.Digits.{bytes-append}
 use Rattle.number.specs.Number.{leBytes}
 use Rattle.format.specs.Layout.{laid, sealed}
-use Rattle.format.specs.Blocks.{Block, Data, image}
+use Rattle.format.specs.Blocks.{Block, image}
 use Rattle.format.specs.Headers.{headerFields, headerImage}
 use Rattle.format.specs.Readings.{volumeOf}
-use Rattle.request.specs.Requests.{Request}
-use Rattle.request.specs.Asking.{requestFor}
 use Rattle.volume.specs.Heading.{firstMark}
 use Rattle.volume.specs.Writing.{appendAnswer}
 use Rattle.volume.specs.declared.Bookmark.{Bookmark}
@@ -27,7 +25,7 @@ use Rattle.claims.specs.Wrong.{storesNothing, alwaysDue}
 use Rattle.claims.proofs.Appending.{admitted-appended}
 use Rattle.claims.proofs.Bytes.{zeros-bytes, volume-bytes}
 use Rattle.claims.proofs.Demand3Reading.{reading-gives, check-answers}
-use Rattle.claims.proofs.Tried.{bare, first-rules, bare-keeps, bare-long, whole, of-bare, data-rules}
+use Rattle.claims.proofs.Tried.{bare, bareData, first-rules, bare-keeps, bare-long, whole, of-bare, data-rules}
 
 -- Written afresh in a buffer of zeros it begins with the magic bytes, and not with zeros.
 pub stores-nothing : Demand3 storesNothing → ⊥
@@ -44,20 +42,19 @@ spare = replicate 100 0
 abbrev roomy : List ℕ
 roomy = volumeOf bare ++ spare
 
-none-due : {room : ℕ} {answers : List WriteAnswer} {blocks : List Block} {request : Request}
-    → Judged room bare (request ∷ []) answers blocks → NoTableDue (extended bare blocks)
+none-due : {room : ℕ} {answers : List WriteAnswer} {blocks : List Block} {block : Block}
+    → Judged room bare (block ∷ []) answers blocks → NoTableDue (extended bare blocks)
 none-due (accepted permits none-left) = permits .keeps .table
 none-due (refused forbids none-left) = tt
 
-long : length (image (Data 1 [])) ≡ 21
+long : length (image (bareData 1)) ≡ 21
 unfolding image sealed laid leBytes
 long = refl
 
-accepted-there : appendAnswer (length roomy) (firstMark 0) (requestFor (Data 1 [])) ≡ write.Next (after (firstMark 0) (Data 1 []))
+accepted-there : appendAnswer (length roomy) (firstMark 0) (bareData 1) ≡ write.Next (after (firstMark 0) (bareData 1))
 accepted-there =
-    admitted-appended roomy (firstMark 0) (requestFor (Data 1 [])) (Data 1 [])
+    admitted-appended roomy (firstMark 0) (bareData 1)
     (record {
-      asks = refl;
       allowed = record { place = refl; keeps = data-rules 1 (omega arith); time = tt };
       base = omega arith;
       small = omega (arith, long);
@@ -77,7 +74,7 @@ always-due claim =
     let start : Start alwaysDue roomy (firstMark 0) bare
     = from-volume (volumeOf bare) spare bare refl (claims .accepted-iff-it-has-a-reading .1 (bare, whole bare bare-keeps))
     (subst (ReaderGives alwaysDue (volumeOf bare) bare) (sym same) (gives .1)) in
-    let list = claim .lists-of-appends roomy (firstMark 0) bare (requestFor (Data 1 []) ∷ [])
+    let list = claim .lists-of-appends roomy (firstMark 0) bare (bareData 1 ∷ [])
     (bytes-append (volumeOf bare) spare (volume-bytes bare first-rules tt) (zeros-bytes 100))
     (record { fit = (omega arith, (omega arith, tt)); bytes = λ i. omega arith }, tt) start in
     let says = rw accepted-there at (list .due-says .1 (none-due (list .each-accepted-exactly-if-allowed))) in

@@ -8,13 +8,13 @@ use Prim.Native.Nat.{ℕ, _+_, _-_, _*_, _%_, _≤_, _<_, min}
 use mathlib.Core.Path.{_≡_}
 use mathlib.Core.Logic.{_⊎_, _↔_}
 use mathlib.Core.List.{List, [], _∷_, _++_}
-use lib.ListN.{length, drop, getD}
+use lib.ListN.{length, drop}
 use Rattle.number.specs.Number.{Bytes, part}
 use Rattle.refusal.specs.Refusal.{refusalOf}
 use Rattle.format.specs.declared.Extent.{Extent}
 use Rattle.format.specs.Layout.{laid}
 use Rattle.format.specs.Extents.{extentWidths, extentFields, keptLength, footprint, ExtentRules, KeepsPosition}
-use Rattle.format.specs.Blocks.{inodeBlock, Block, kindOf, fields, body, image, BlockRules, fileType, regular}
+use Rattle.format.specs.Blocks.{InodeFields, Inode, image, BlockRules, fileType, regular}
 use Rattle.extent.specs.Extents.{extentAt, extentCount}
 use Rattle.block.specs.Fields.{sizeAt, restAt}
 use Rattle.runs.specs.Positions.{copyOf}
@@ -35,14 +35,12 @@ extentOf volume offset index = extentAt (restAt volume offset) index
 -- These are the file's by the format: the image of a regular file's inode block that keeps the rules stands there; it has this
 -- size, and its n bytes are these extents, 57 bytes each.
 pub record IsFile (volume : List ℕ) (offset : ℕ) : Type 0 where
-  pub block : Block
-  pub keeps : BlockRules block
-  pub stands : part volume offset (length (image block)) ≡ image block
-  pub inode : kindOf block ≡ inodeBlock
-  -- the mode is the inode's third field, and the size its tenth
-  pub type : fileType (getD (fields block) 2 0) ≡ regular
-  pub size : getD (fields block) 9 0 ≡ sizeAt volume offset
-  pub list : body block ≡ restAt volume offset
+  pub inode : InodeFields
+  pub keeps : BlockRules (Inode inode)
+  pub stands : part volume offset (length (image (Inode inode))) ≡ image (Inode inode)
+  pub type : fileType (inode .mode) ≡ regular
+  pub size : inode .size ≡ sizeAt volume offset
+  pub list : inode .rest ≡ restAt volume offset
   pub whole : length (restAt volume offset) ≡ 57 * extentsIn volume offset
   pub each : (index : ℕ) → index < extentsIn volume offset
       → part (restAt volume offset) (57 * index) 57 ≡ laid extentWidths (extentFields (extentOf volume offset index))

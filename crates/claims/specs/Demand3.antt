@@ -5,18 +5,17 @@ use Prim.Native.Nat.{ℕ, _≤_}
 use mathlib.Core.Path.{_≡_}
 use mathlib.Core.Bool.{false}
 use mathlib.Core.Logic.{_↔_}
-use mathlib.Core.List.{List, [], _∷_, _++_, map}
+use mathlib.Core.List.{List, [], _∷_, _++_}
 use lib.ListN.{length, take, drop}
 use Rattle.number.specs.Number.{Bytes}
 use Rattle.refusal.specs.declared.Refusal.{Refusal}
 use Rattle.format.specs.Layout.{All}
-use Rattle.format.specs.Blocks.{Block, BlockRules}
+use Rattle.format.specs.Blocks.{LinksOf, Block, BlockRules}
 use Rattle.format.specs.Headers.{Header, HeaderRules}
 use Rattle.format.specs.Readings.{Reading, TableRule, Keeps, images, volumeOf, ReadingOf}
 use Rattle.block.specs.Shown.{shown}
 use Rattle.volume.specs.Heading.{firstMark}
-use Rattle.request.specs.Requests.{Request}
-use Rattle.request.specs.Asking.{requestFor, Sized}
+use Rattle.request.specs.Asking.{Sized}
 use Rattle.volume.specs.Writing.{SizedHeader}
 use Rattle.volume.specs.declared.Bookmark.{Bookmark}
 use Rattle.volume.specs.declared.Found.{Found}
@@ -58,30 +57,27 @@ abbrev pub extended : Reading → List Block → Reading
 extended sofar blocks = record { header = sofar .header; blocks = sofar .blocks ++ blocks }
 
 -- A block may be appended after the header and blocks so far, in a buffer of so many bytes.
-pub record Permits (room : ℕ) (sofar : Reading) (request : Request) (block : Block) : Type 0 where
-  -- the request has the block's own fields, and of a table the bytes of its links and no others
-  pub asks : requestFor block ≡ request
-  -- one block longer, the reading still keeps the rules, among them that a length fits its field
+pub record Permits (room : ℕ) (sofar : Reading) (block : Block) : Type 0 where
+  -- one block longer, the reading still keeps the rules: among them that a length fits its field, and that the bytes of a table are
+  -- exactly the stated links
   pub keeps : Keeps (extended sofar (block ∷ []))
   pub with-room : length (volumeOf (extended sofar (block ∷ []))) ≤ room
   pub within-size : length (volumeOf (extended sofar (block ∷ []))) ≤ 16777216
 
--- The answers to a list of requests after the header and blocks so far: acceptance where a block may be appended, and refusal where
--- none may. The last list has the accepted blocks.
-pub data Judged (room : ℕ) : (sofar : Reading) → List Request → List WriteAnswer → List Block → Type 0 where
+-- The answers to a list of appends after the header and blocks so far: acceptance where the block may be appended, and refusal where
+-- it may not. The last list has the accepted blocks.
+pub data Judged (room : ℕ) : (sofar : Reading) → (asked : List Block) → List WriteAnswer → List Block → Type 0 where
   none-left : {sofar : Reading} → Judged room sofar [] [] []
   accepted :
-      {sofar : Reading} {request : Request} {requests : List Request} {next : Bookmark} {answers : List WriteAnswer}
-      {block : Block} {blocks : List Block}
-      → Permits room sofar request block
-      → Judged room (extended sofar (block ∷ [])) requests answers blocks
-      → Judged room sofar (request ∷ requests) (Next next ∷ answers) (block ∷ blocks)
+      {sofar : Reading} {block : Block} {asked blocks : List Block} {next : Bookmark} {answers : List WriteAnswer}
+      → Permits room sofar block
+      → Judged room (extended sofar (block ∷ [])) asked answers blocks
+      → Judged room sofar (block ∷ asked) (Next next ∷ answers) (block ∷ blocks)
   refused :
-      {sofar : Reading} {request : Request} {requests : List Request} {refusal : Refusal} {answers : List WriteAnswer}
-      {blocks : List Block}
-      → ((block : Block) → Permits room sofar request block → ⊥)
-      → Judged room sofar requests answers blocks
-      → Judged room sofar (request ∷ requests) (Refused refusal ∷ answers) blocks
+      {sofar : Reading} {block : Block} {asked blocks : List Block} {refusal : Refusal} {answers : List WriteAnswer}
+      → (Permits room sofar block → ⊥)
+      → Judged room sofar asked answers blocks
+      → Judged room sofar (block ∷ asked) (Refused refusal ∷ answers) blocks
 
 -- No table is due after a header and blocks: they keep the rule on tables as they stand, so that none is still to come.
 abbrev pub NoTableDue : Reading → Type 0
@@ -89,17 +85,17 @@ NoTableDue sofar = TableRule (sofar .header .sequence) (sofar .blocks)
 
 module _ (library : Library) where
   -- the appends of a list, one after the other: buffer and bookmark go from each to the next
-  unfoldable pub appends : (buffer : List ℕ) → Bookmark → List Request → Outcome
+  unfoldable pub appends : (buffer : List ℕ) → Bookmark → List Block → Outcome
   appends buffer mark [] = record { answers = []; buffer = buffer; mark = mark }
-  appends buffer mark (request ∷ requests) =
-      answeredFirst (library .append (length buffer) mark request)
-      (appends (library .appendBuffer buffer mark request) (onward mark (library .append (length buffer) mark request)) requests)
+  appends buffer mark (block ∷ blocks) =
+      answeredFirst (library .append (length buffer) mark block)
+      (appends (library .appendBuffer buffer mark block) (onward mark (library .append (length buffer) mark block)) blocks)
 
   -- a reading written afresh: its header, and then its blocks by one append each. The first append gets the bookmark that the header
   -- writer returns (`header-accepted` below)
   abbrev pub writtenAfresh : (buffer : List ℕ) → Reading → Outcome
   writtenAfresh buffer reading =
-      appends (library .headerBuffer buffer (reading .header)) (firstMark (reading .header .sequence)) (map requestFor (reading .blocks))
+      appends (library .headerBuffer buffer (reading .header)) (firstMark (reading .header .sequence)) (reading .blocks)
 
   -- Writing a volume afresh.
 
@@ -150,10 +146,10 @@ module _ (library : Library) where
     pub same-reading : shown later (found .block) ≡ shown volume (found .block)
 
   -- What is claimed of a list of appends from a start.
-  pub record AppendsClaim (buffer : List ℕ) (mark : Bookmark) (sofar : Reading) (requests : List Request) (outcome : Outcome) : Type 0 where
+  pub record AppendsClaim (buffer : List ℕ) (mark : Bookmark) (sofar : Reading) (asked : List Block) (outcome : Outcome) : Type 0 where
+    -- the accepted ones
     pub blocks : List Block
-    -- which requests are accepted, one after the other
-    pub each-accepted-exactly-if-allowed : Judged (length buffer) sofar requests (outcome .answers) blocks
+    pub each-accepted-exactly-if-allowed : Judged (length buffer) sofar asked (outcome .answers) blocks
     -- what stood below the first bookmark is followed by the images of the accepted blocks
     pub bytes-below : written outcome ≡ take (mark .offset) buffer ++ images blocks
     -- nothing from the last bookmark on has changed
@@ -169,23 +165,17 @@ module _ (library : Library) where
         → StillRead (take (mark .offset) buffer) (written outcome) at found
 
   -- Demand 3: the first holds of every volume of at most 16,777,216 bytes, the second of every volume, the third of every start and
-  -- every list of appends. The next makes "its block" of a request one block. The last two say that `Sized` and `SizedHeader` leave out
-  -- nothing that the rules allow; that they leave out no call is in the calls' own contracts.
+  -- every list of appends. The next: a table's bytes are one list of links and no other. The last two say that `Sized` and `SizedHeader`
+  -- leave out nothing that the rules allow; that they leave out no call is in the calls' own contracts.
   pub record Demand3 : Type 0 where
     pub volumes : (volume : List ℕ) → Bytes volume → length volume ≤ 16777216 → VolumeClaim volume
     pub refused-volumes : RefusedVolumes library
     pub lists-of-appends :
-        (buffer : List ℕ) (mark : Bookmark) (sofar : Reading) (requests : List Request)
+        (buffer : List ℕ) (mark : Bookmark) (sofar : Reading) (asked : List Block)
         → Bytes buffer
-        → All Sized requests
+        → All Sized asked
         → Start buffer mark sofar
-        → AppendsClaim buffer mark sofar requests (appends buffer mark requests)
-    pub one-block-asked-for :
-        (request : Request) (a b : Block)
-        → requestFor a ≡ request
-        → BlockRules a
-        → requestFor b ≡ request
-        → BlockRules b
-        → a ≡ b
-    pub every-block-can-be-asked-for : (block : Block) → BlockRules block → Sized (requestFor block)
+        → AppendsClaim buffer mark sofar asked (appends buffer mark asked)
+    pub one-list-of-links : (count : ℕ) (bytes : List ℕ) (a b : LinksOf count bytes) → a .links ≡ b .links
+    pub every-block-can-be-asked-for : (block : Block) → BlockRules block → Sized block
     pub every-header-can-be-asked-for : (header : Header) → HeaderRules header → SizedHeader header

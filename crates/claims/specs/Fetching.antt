@@ -15,8 +15,9 @@ use lib.ListN.{length, getD}
 use Rattle.number.specs.Number.{Bytes, part}
 use Rattle.number.specs.Address.{Address, addressIn}
 use Rattle.format.specs.Headers.{Header, headerImage, HeaderRules}
-use Rattle.lookup.specs.Lookup.{positionAnswer, runsAnswer, runsRoom}
-use Rattle.lookup.specs.Fetch.{fetchFault, fetchPart, fetchAddress}
+use Rattle.lookup.specs.inner.Answers.{positionAnswer, runsAnswer, runsRoom}
+use Rattle.lookup.specs.Fetch.{fetchFault}
+use Rattle.lookup.specs.inner.Part.{fetchPart, fetchAddress}
 use Rattle.lookup.specs.declared.PositionAnswer.{PositionAnswer as Answer}
 use Rattle.lookup.specs.declared.PositionAnswer.the-variants as PositionAnswer
 use Rattle.lookup.specs.declared.RunsAnswer.the-variants as RunsAnswer

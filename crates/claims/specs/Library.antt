@@ -6,9 +6,9 @@
 use Prim.Native.Nat.{ℕ}
 use mathlib.Core.List.{List}
 use Rattle.number.specs.Number.{put}
+use Rattle.format.specs.Blocks.{Block}
 use Rattle.format.specs.Headers.{Header}
-use Rattle.request.specs.Requests.{Request}
-use Rattle.volume.specs.Heading.{headerAnswer, partAnswer}
+use Rattle.volume.specs.Heading.{headerAnswer, fieldAnswer}
 use Rattle.volume.specs.Reading.{readAnswer}
 use Rattle.volume.specs.inner.Check.{checkAnswer}
 use Rattle.volume.specs.Writing as writing
@@ -17,7 +17,7 @@ use Rattle.volume.specs.declared.HeaderAnswer.{HeaderAnswer}
 use Rattle.volume.specs.declared.ReadAnswer.{ReadAnswer}
 use Rattle.volume.specs.declared.Verdict.{Verdict}
 use Rattle.volume.specs.declared.WriteAnswer.{WriteAnswer}
-use Rattle.lookup.specs.Lookup as lookup
+use Rattle.lookup.specs.inner.Answers as lookup
 use Rattle.lookup.specs.declared.PositionAnswer.{PositionAnswer}
 use Rattle.lookup.specs.declared.RunsAnswer.{RunsAnswer}
 use Rattle.listing.specs.Listing.{listAnswer}
@@ -35,8 +35,8 @@ pub record Library : Type 0 where
   pub writeHeader : (room : ℕ) → Header → WriteAnswer
   pub headerBuffer : (buffer : List ℕ) → Header → List ℕ
   -- the eight appends
-  pub append : (room : ℕ) → Bookmark → Request → WriteAnswer
-  pub appendBuffer : (buffer : List ℕ) → Bookmark → Request → List ℕ
+  pub append : (room : ℕ) → Bookmark → Block → WriteAnswer
+  pub appendBuffer : (buffer : List ℕ) → Bookmark → Block → List ℕ
   -- position, and runs with a list of so many numbers, and the list after it
   pub position : (volume : List ℕ) (offset : ℕ) (lengths : List ℕ) (position : ℕ) → PositionAnswer
   pub runs : (volume : List ℕ) (offset : ℕ) (lengths : List ℕ) (from to room : ℕ) → RunsAnswer
@@ -49,8 +49,8 @@ abbrev pub ours : Library
 ours =
     record {
       readHeader = headerAnswer;
-      fileSystemId = λ volume. partAnswer volume 18 16;
-      previousHash = λ volume. partAnswer volume 44 32;
+      fileSystemId = λ volume. fieldAnswer "file system ID" volume;
+      previousHash = λ volume. fieldAnswer "previous hash" volume;
       read = readAnswer;
       check = checkAnswer;
       writeHeader = writing.writeAnswer;

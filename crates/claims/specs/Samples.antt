@@ -25,7 +25,7 @@ use Rattle.volume.specs.declared.Bookmark.{Bookmark}
 use Rattle.volume.specs.declared.LastTime.the-variants.{At}
 use Rattle.volume.specs.declared.ReadAnswer.the-variants as ReadAnswer
 use Rattle.volume.specs.declared.Verdict.the-variants as Verdict
-use Rattle.lookup.specs.Lookup.{positionAnswer, runsAnswer, runsRoom}
+use Rattle.lookup.specs.inner.Answers.{positionAnswer, runsAnswer, runsRoom}
 use Rattle.lookup.specs.declared.PositionAnswer.{PositionAnswer}
 use Rattle.lookup.specs.declared.PositionAnswer.the-variants.{PastEnd}
 use Rattle.lookup.specs.declared.RunsAnswer.the-variants as RunsAnswer
@@ -55,10 +55,25 @@ abbrev pub first : Header
 first = record { id = replicate 16 0; sequence = 0; previous = noHash }
 
 abbrev pub payload : Block
-payload = Data 1 (49 ∷ 44 ∷ 53 ∷ [])
+payload = Data (record { time = 1; payload = 49 ∷ 44 ∷ 53 ∷ [] })
 
 abbrev pub inode : File → Block
-inode file = Inode 1 2 0x8000 0 0 0 0 0 0 (file .size) (extentList (file .extents))
+inode file =
+    Inode (
+    record {
+      inode = 1;
+      time = 2;
+      mode = 0x8000;
+      uid = 0;
+      gid = 0;
+      atime = 0;
+      mtime = 0;
+      ctime = 0;
+      btime = 0;
+      size = file .size;
+      rest = extentList (file .extents);
+    }
+    )
 
 abbrev pub withFile : File → List ℕ
 withFile file = volumeOf (record { header = first; blocks = payload ∷ inode file ∷ [] })

@@ -9,12 +9,11 @@ use mathlib.Core.Path.{_≡_}
 use mathlib.Core.List.{List}
 use lib.ListN.{length, getElem?}
 use Rattle.number.specs.Number.{Bytes}
-use Rattle.format.specs.Blocks as format
-use Rattle.format.specs.Blocks.{TableLink, linkList}
+use Rattle.format.specs.Blocks.{TableLink, linkList, LinksOf}
 use Rattle.links.specs.Links.{linkAnswer}
 use Rattle.links.specs.Walked.{linkShown, Walked}
 use Rattle.links.specs.declared.LinkAnswer.the-variants.{Missing}
-use Rattle.block.specs.Shown.{bytesOf, shown}
+use Rattle.block.specs.Fields.{bytesOf}
 use Rattle.block.specs.declared.TableBlock.{TableBlock}
 use Rattle.block.specs.declared.Block.the-variants.{Table}
 use Rattle.volume.specs.Reading.{readAnswer}
@@ -33,10 +32,11 @@ pub record TableClaim (part : List ℕ) (count : ℕ) (links : List TableLink) :
   -- link_from, called at 0 and then where the last link ended, gives all the links in order, and then none
   pub in-order : Walked part 0 links
 
--- All of this holds of every table that the reader hands out, whatever the bookmark.
+-- The part and the count of every table that the reader hands out, whatever the bookmark, are links by the rules of the format, and all
+-- of this holds of them. A part is the bytes of one list of links only (`one-list-of-links` of demand 3).
 abbrev pub TableLinks : Type 0
 TableLinks =
-    (volume : List ℕ) (mark : Bookmark) (found : Found) (table : TableBlock) (links : List TableLink) → Bytes volume
+    (volume : List ℕ) (mark : Bookmark) (found : Found) (table : TableBlock) → Bytes volume
     → readAnswer volume mark ≡ ReadAnswer.Found found → found .block ≡ Table table
-    → shown volume (found .block) ≡ format.Table links
-    → TableClaim (bytesOf volume (table .links)) (table .count) links
+    → (of : LinksOf (table .count) (bytesOf volume (table .links)))
+    × TableClaim (bytesOf volume (table .links)) (table .count) (of .links)

@@ -8,11 +8,11 @@ use mathlib.Core.List.{List, [], _++_}
 use lib.ListN.{length}
 use Rattle.number.specs.Number.{put}
 use Rattle.refusal.specs.Refusal.{refusalOf}
+use Rattle.format.specs.Blocks as format
 use Rattle.format.specs.Headers.{Header}
 use Rattle.block.specs.Shown.{blockAt}
 use Rattle.block.specs.declared.Block.{Block}
 use Rattle.block.specs.declared.Block.the-variants as block
-use Rattle.request.specs.Requests.{Request}
 use Rattle.volume.specs.declared.Bookmark.{Bookmark}
 use Rattle.volume.specs.declared.HeaderAnswer.the-variants as head
 use Rattle.volume.specs.declared.ReadAnswer.{ReadAnswer}
@@ -36,8 +36,8 @@ abbrev pub answering :
     (read : List ℕ → Bookmark → ReadAnswer)
     (check : List ℕ → Verdict)
     (headerBuffer : List ℕ → Header → List ℕ)
-    (append : ℕ → Bookmark → Request → WriteAnswer)
-    (appendBuffer : List ℕ → Bookmark → Request → List ℕ)
+    (append : ℕ → Bookmark → format.Block → WriteAnswer)
+    (appendBuffer : List ℕ → Bookmark → format.Block → List ℕ)
     (position : List ℕ → ℕ → List ℕ → ℕ → PositionAnswer)
     (listRoom : List ℕ → List ℕ → List ℕ)
     → Library

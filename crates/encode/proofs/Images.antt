@@ -1,20 +1,13 @@
 -- A block's ID, its fields, its variable parts and its CRC, written one after the other, are its image. Assumes nothing.
 use Prim.Native.Nat.{ℕ, _+_, _%_, _≤_, _<_}
-use mathlib.Core.Path.{_≡_, refl, ap, _∙_}
+use mathlib.Core.Path.{_≡_, ap, _∙_}
 use mathlib.Core.List.{List, _∷_, _++_}
 use native.Mathlib.Omega.{arith}
 use lib.ListN.{length}
 use Rattle.number.specs.Number.{leBytes, part, put}
 use Rattle.crc32.specs.Crc.{crc}
 use Rattle.format.specs.Layout.{total, laid, sealed}
-use Rattle.format.specs.Blocks.{Block, kindOf, fields, body, image}
-use Rattle.encode.specs.Images.{imageOf}
 use Rattle.encode.proofs.Writes.{Written, length-written, written-at, put-sealed}
-
--- the format's image of a block is that of its own kind, values and bytes
-pub image-is : (block : Block) → image block ≡ imageOf (kindOf block) (fields block) (body block)
-unfolding image
-image-is block = refl
 
 -- the ID is a field of one byte
 id-laid : (id : ℕ) (widths values : List ℕ) → id < 256 → laid (1 ∷ widths) (id ∷ values) ≡ id ∷ laid widths values

@@ -6,21 +6,14 @@ use native.Mathlib.Omega.{arith}
 use lib.ListN.{length, length-append}
 use Rattle.number.proofs.Digits.{length-leBytes}
 use Rattle.format.specs.Layout.{total, laid}
-use Rattle.format.specs.Blocks.{Kind, inodeBlock, linkBlock, unlinkBlock, xattrBlock, removedXattrBlock, dataBlock, renameBlock, linkTable, idOf, widths}
+use Rattle.format.specs.Blocks.{Kind, idOf, widths, Block, Inode, Link, Unlink, Xattr, RemovedXattr, Data, Rename, Table}
+use Rattle.format.specs.Blocks.{kindOf, fields, body, image}
 use Rattle.format.specs.Headers.{Header, headerFields, headerImage}
 use Rattle.format.proofs.Seal.{length-sealed}
-use Rattle.encode.specs.Images.{imageOf, sizeOf}
 
--- ID, fixed fields and CRC
-size-is : (kind : Kind) → 1 + total (widths kind) + 4 ≡ sizeOf kind
-size-is inodeBlock = refl
-size-is linkBlock = refl
-size-is unlinkBlock = refl
-size-is xattrBlock = refl
-size-is removedXattrBlock = refl
-size-is dataBlock = refl
-size-is renameBlock = refl
-size-is linkTable = refl
+-- how many bytes an image has besides those of the variable parts: ID, fixed fields and CRC
+abbrev pub sizeOf : Kind → ℕ
+sizeOf kind = 1 + total (widths kind) + 4
 
 -- fields laid out are as long as their widths say, also where a value does not fit
 length-any : (widths values : List ℕ) → length widths ≡ length values → length (laid widths values) ≡ total widths
@@ -30,12 +23,23 @@ length-any (width ∷ widths) [] e = absurd (omega arith)
 length-any (width ∷ widths) (value ∷ values) e =
     simp length-append (omega (arith, length-leBytes width value, length-any widths values (omega arith)))
 
-pub length-imageOf : (kind : Kind) (values body : List ℕ) → length (widths kind) ≡ length values
-    → length (imageOf kind values body) ≡ sizeOf kind + length body
-length-imageOf kind values body e =
-    let fixed : List ℕ = laid (widths kind) values in
-    length-sealed (idOf kind ∷ fixed ++ body)
-    ∙ omega (arith, length-append fixed body, length-any (widths kind) values e, size-is kind)
+-- there is a value for each field
+as-many : (block : Block) → length (widths (kindOf block)) ≡ length (fields block)
+as-many (Inode b) = refl
+as-many (Link b) = refl
+as-many (Unlink b) = refl
+as-many (Xattr b) = refl
+as-many (RemovedXattr b) = refl
+as-many (Data b) = refl
+as-many (Rename b) = refl
+as-many (Table b) = refl
+
+pub length-image : (block : Block) → length (image block) ≡ sizeOf (kindOf block) + length (body block)
+unfolding image
+length-image block =
+    let fixed : List ℕ = laid (widths (kindOf block)) (fields block) in
+    length-sealed (idOf (kindOf block) ∷ fixed ++ body block)
+    ∙ omega (arith, length-append fixed (body block), length-any (widths (kindOf block)) (fields block) (as-many block))
 
 pub length-headerFields : (header : Header) → length (header .id) ≡ 16 → length (header .previous) ≡ 32
     → length (headerFields header) ≡ 76

@@ -10,9 +10,8 @@ ghost use lib.ListN.{length};
 ghost use Rattle.number.specs.Number.{leBytes, part, put};
 ghost use Rattle.crc32.specs.Crc.{crc};
 ghost use Rattle.format.specs.Layout.{laid, sealed};
-ghost use Rattle.format.specs.Blocks.{inodeBlock, linkBlock, unlinkBlock, xattrBlock, removedXattrBlock, dataBlock, renameBlock, linkTable, widths};
+ghost use Rattle.format.specs.Blocks.{linkBlock, widths, Inode, Link, Unlink, Xattr, RemovedXattr, Data, Rename, Table, image};
 ghost use Rattle.format.specs.Headers.{headerFields, headerImage};
-ghost use Rattle.encode.specs.Images.{imageOf};
 
 // The IDs of the kinds of block.
 const INODE: u8 = 1;
@@ -78,8 +77,19 @@ pub fn write_inode(
 )
     requires { ⌜ offset + 75 + length (now rest) ≤ length (now buf) ⌝ }
     ensures { λ _. ⌜ now (buf .exit) ≡ put (now (buf .entry)) offset
-        (imageOf inodeBlock (inode ∷ time ∷ mode ∷ uid ∷ gid ∷ atime ∷ mtime ∷ ctime ∷ btime ∷ size ∷ length (now (rest .entry)) ∷ [])
-        (now (rest .entry))) ⌝ }
+        (image (Inode (record {
+          inode = inode;
+          time = time;
+          mode = mode;
+          uid = uid;
+          gid = gid;
+          atime = atime;
+          mtime = mtime;
+          ctime = ctime;
+          btime = btime;
+          size = size;
+          rest = now (rest .entry);
+        }))) ⌝ }
 {
     let covered = 71 + rest.len();
     number::write_u8(buf, offset, INODE);
@@ -122,7 +132,7 @@ pub fn write_link(buf: &mut [u8], offset: usize, time: u64, child: u64, parent: 
     requires { ⌜ offset + 31 + length (now name) ≤ length (now buf) ⌝ }
     requires { ⌜ length (now name) < 65536 ⌝ }
     ensures { λ _. ⌜ now (buf .exit) ≡ put (now (buf .entry)) offset
-        (imageOf linkBlock (time ∷ child ∷ parent ∷ length (now (name .entry)) ∷ []) (now (name .entry))) ⌝ }
+        (image (Link (record { time = time; child = child; parent = parent; name = now (name .entry) }))) ⌝ }
 {
     write_link_or_unlink(buf, offset, LINK, time, child, parent, name);
 }
@@ -132,7 +142,7 @@ pub fn write_unlink(buf: &mut [u8], offset: usize, time: u64, child: u64, parent
     requires { ⌜ offset + 31 + length (now name) ≤ length (now buf) ⌝ }
     requires { ⌜ length (now name) < 65536 ⌝ }
     ensures { λ _. ⌜ now (buf .exit) ≡ put (now (buf .entry)) offset
-        (imageOf unlinkBlock (time ∷ child ∷ parent ∷ length (now (name .entry)) ∷ []) (now (name .entry))) ⌝ }
+        (image (Unlink (record { time = time; child = child; parent = parent; name = now (name .entry) }))) ⌝ }
 {
     write_link_or_unlink(buf, offset, UNLINK, time, child, parent, name);
 }
@@ -168,8 +178,7 @@ pub fn write_xattr(buf: &mut [u8], offset: usize, time: u64, inode: u64, name: &
     requires { ⌜ length (now name) < 256 ⌝ }
     requires { ⌜ length (now value) < 65536 ⌝ }
     ensures { λ _. ⌜ now (buf .exit) ≡ put (now (buf .entry)) offset
-        (imageOf xattrBlock (time ∷ inode ∷ length (now (name .entry)) ∷ length (now (value .entry)) ∷ [])
-        (now (name .entry) ++ now (value .entry))) ⌝ }
+        (image (Xattr (record { time = time; inode = inode; name = now (name .entry); value = now (value .entry) }))) ⌝ }
 {
     let covered = 20 + name.len() + value.len();
     number::write_u8(buf, offset, XATTR);
@@ -186,7 +195,7 @@ pub fn write_removed_xattr(buf: &mut [u8], offset: usize, time: u64, inode: u64,
     requires { ⌜ offset + 22 + length (now name) ≤ length (now buf) ⌝ }
     requires { ⌜ length (now name) < 256 ⌝ }
     ensures { λ _. ⌜ now (buf .exit) ≡ put (now (buf .entry)) offset
-        (imageOf removedXattrBlock (time ∷ inode ∷ length (now (name .entry)) ∷ []) (now (name .entry))) ⌝ }
+        (image (RemovedXattr (record { time = time; inode = inode; name = now (name .entry) }))) ⌝ }
 {
     let covered = 18 + name.len();
     number::write_u8(buf, offset, REMOVED_XATTR);
@@ -201,7 +210,7 @@ pub fn write_removed_xattr(buf: &mut [u8], offset: usize, time: u64, inode: u64,
 pub fn write_data(buf: &mut [u8], offset: usize, time: u64, payload: &[u8])
     requires { ⌜ offset + 21 + length (now payload) ≤ length (now buf) ⌝ }
     ensures { λ _. ⌜ now (buf .exit) ≡ put (now (buf .entry)) offset
-        (imageOf dataBlock (time ∷ length (now (payload .entry)) ∷ []) (now (payload .entry))) ⌝ }
+        (image (Data (record { time = time; payload = now (payload .entry) }))) ⌝ }
 {
     let covered = 17 + payload.len();
     number::write_u8(buf, offset, DATA);
@@ -217,7 +226,7 @@ pub fn write_rename(buf: &mut [u8], offset: usize, time: u64, old: &[u8], new: &
     requires { ⌜ length (now old) < 65536 ⌝ }
     requires { ⌜ length (now new) < 65536 ⌝ }
     ensures { λ _. ⌜ now (buf .exit) ≡ put (now (buf .entry)) offset
-        (imageOf renameBlock (time ∷ length (now (old .entry)) ∷ length (now (new .entry)) ∷ []) (now (old .entry) ++ now (new .entry))) ⌝ }
+        (image (Rename (record { time = time; old = now (old .entry); new = now (new .entry) }))) ⌝ }
 {
     let covered = 13 + old.len() + new.len();
     number::write_u8(buf, offset, RENAME);
@@ -232,7 +241,7 @@ pub fn write_rename(buf: &mut [u8], offset: usize, time: u64, old: &[u8], new: &
 pub fn write_table(buf: &mut [u8], offset: usize, count: u64, links: &[u8])
     requires { ⌜ offset + 13 + length (now links) ≤ length (now buf) ⌝ }
     ensures { λ _. ⌜ now (buf .exit) ≡ put (now (buf .entry)) offset
-        (imageOf linkTable (count ∷ []) (now (links .entry))) ⌝ }
+        (image (Table (record { count = count; links = now (links .entry) }))) ⌝ }
 {
     let covered = 9 + links.len();
     number::write_u8(buf, offset, LINK_TABLE);

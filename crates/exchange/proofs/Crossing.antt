@@ -6,28 +6,24 @@ use mathlib.Core.Bool.{Bool, true, false, cond}
 use mathlib.Core.List.{List}
 use native.Mathlib.Omega.{arith}
 use lib.Dec.{eqb}
-use lib.ListN.{length}
 use borrow.Author.Tests.{ne-eqb}
 use Rattle.number.specs.Number.{Bytes}
 use Rattle.refusal.specs.Refusal.{refusalOf}
-use Rattle.format.specs.Blocks as format
-use Rattle.format.specs.Blocks.{TableLink}
+use Rattle.format.specs.Blocks.{Block as Asked, TableLink, LinksOf}
 use Rattle.format.specs.Headers.{Header}
 use Rattle.format.specs.declared.Extent.{Extent}
 use Rattle.extent.specs.Extents.{extentAt}
-use Rattle.links.specs.Links.{linkFrom, linksFrom}
+use Rattle.links.specs.Links.{linkFrom}
 use Rattle.links.specs.Walked.{Walked, none-left as ended, handed}
 use Rattle.links.specs.declared.LinkAnswer.{LinkAnswer}
 use Rattle.links.specs.declared.LinkAnswer.the-variants as LinkAnswer
-use Rattle.links.proofs.Lists.{length-links}
+use Rattle.links.proofs.Tables.{links-shown, links-fill-bytes}
 use Rattle.links.proofs.Walks.{walked-to-the-end}
-use Rattle.block.specs.Fields.{kindWith}
-use Rattle.block.specs.Shown.{blockAt, bytesOf, shown}
+use Rattle.block.specs.Fields.{kindWith, bytesOf}
+use Rattle.block.specs.Shown.{blockAt, shown}
 use Rattle.block.specs.declared.TableBlock.{TableBlock}
 use Rattle.block.specs.declared.Block.{Block}
 use Rattle.block.specs.declared.Block.the-variants.{Inode, Link, Unlink, Xattr, RemovedXattr, Data, Rename, Table}
-use Rattle.block.proofs.TableLinks.{Filled}
-use Rattle.request.specs.Requests.{Request}
 use Rattle.volume.specs.Heading.{sequenceOf, headerFault, firstMark, headerAnswer, partAnswer}
 use Rattle.volume.specs.Reading.{readFault, nextMark, readAnswer}
 use Rattle.volume.specs.inner.Check.{checkAnswer}
@@ -48,20 +44,22 @@ use Rattle.volume.proofs.Whole.{header-length}
 use Rattle.volume.proofs.Steps.{Answers, ends, finds, refuses, answers}
 use Rattle.volume.proofs.HeaderImage.{HeaderAnswers, accepts, rejects, header-answers}
 use Rattle.volume.proofs.Verdicts.{EndsWell, check-ends-well}
-use Rattle.volume.proofs.TableLinks.{table-handed-out}
-use Rattle.lookup.specs.Lookup.{positionAnswer, runsFault, runsAnswer}
+use Rattle.volume.proofs.TableLinks.{table-rules}
+use Rattle.lookup.specs.inner.Answers.{positionAnswer, runsAnswer}
+use Rattle.lookup.specs.Lookup.{runsFault}
 use Rattle.lookup.proofs.Refusals.{RefusedByNumber, position-refused-by-number}
 use Rattle.lookup.specs.declared.PositionAnswer.{PositionAnswer}
 use Rattle.lookup.specs.declared.PositionAnswer.the-variants as PositionAnswer
 use Rattle.lookup.specs.declared.RunsAnswer.the-variants as RunsAnswer
 use Rattle.exchange.specs.Marks.{flagNumber, timedNumber, timeNumber, bookmarkOf}
 use Rattle.exchange.specs.Checking.{checkNumbers}
-use Rattle.exchange.specs.Walking.{foundNumbers, headingNumbers, blockNumbers, linkNumbers, extentNumbers}
+use Rattle.exchange.specs.Blocks.{foundNumbers}
+use Rattle.exchange.specs.Walking.{headingNumbers, blockNumbers, linkNumbers, extentNumbers}
 use Rattle.exchange.specs.Places.{placeNumbers, runCountNumbers}
 use Rattle.exchange.specs.Writing.{writtenNumbers}
-use Rattle.exchange.specs.Crossing.{headerBack, blockWith, foundBack, readBack, checkBack, writtenBack}
-use Rattle.exchange.specs.Crossing.{positionBack, runsBack, linkBack, extentBack}
-use Rattle.exchange.specs.Crossing.{PartsTold, LinksTold, none-left, told, TableTold, Crossing}
+use Rattle.exchange.specs.inner.Back.{headerBack, blockWith, foundBack, readBack, checkBack, writtenBack}
+use Rattle.exchange.specs.inner.Back.{positionBack, runsBack, linkBack, extentBack}
+use Rattle.exchange.specs.Crossing.{Crosses, FieldTold, LinksTold, none-left, told, TableTold, Crossing}
 
 pub bookmark-comes-back : (mark : Bookmark)
     → bookmarkOf (mark .offset) (flagNumber (mark .due)) (timedNumber (mark .last)) (timeNumber (mark .last)) ≡ mark
@@ -82,31 +80,33 @@ either around false one other p q = q refl
 
 -- The header, the blocks and the check.
 
-header-crosses : (volume : List ℕ) → headerBack (headingNumbers (headerAnswer volume)) ≡ headerAnswer volume
+header-crosses : (volume : List ℕ) → Crosses headingNumbers headerBack (headerAnswer volume)
 unfolding headerBack headingNumbers
 header-crosses volume = go (header-answers volume)
   where
-    go : {a : HeaderAnswer} → HeaderAnswers volume a → headerBack (headingNumbers a) ≡ a
+    go : {a : HeaderAnswer} → HeaderAnswers volume a → Crosses headingNumbers headerBack a
     go (accepts f) =
         ap (λ next. HeaderAnswer.Accepted (record { sequence = sequenceOf volume; next = next }))
         (bookmark-comes-back (firstMark (sequenceOf volume)))
     go (rejects f) = rw (ne-eqb (headerFault volume) 0 f)
 
 -- a header that is not refused has 80 bytes
-parts-told : (volume : List ℕ) → headingNumbers (headerAnswer volume) .refusal ≡ 0
-    → PartsTold volume (headingNumbers (headerAnswer volume))
+fields-told : (volume : List ℕ) → headingNumbers (headerAnswer volume) .refusal ≡ 0
+    → FieldTold "file system ID" volume (headingNumbers (headerAnswer volume) .id)
+    × FieldTold "previous hash" volume (headingNumbers (headerAnswer volume) .previous)
 unfolding headingNumbers partAnswer
-parts-told volume = go (header-answers volume)
+fields-told volume = go (header-answers volume)
   where
-    go : {a : HeaderAnswer} → HeaderAnswers volume a → headingNumbers a .refusal ≡ 0 → PartsTold volume (headingNumbers a)
+    go : {a : HeaderAnswer} → HeaderAnswers volume a → headingNumbers a .refusal ≡ 0
+        → FieldTold "file system ID" volume (headingNumbers a .id) × FieldTold "previous hash" volume (headingNumbers a .previous)
     go (accepts f) e =
         let long = header-length volume f in
-        record { id = rw f; id-within = omega arith; previous = rw f; previous-within = omega arith }
+        (record { same = rw f; within = omega arith }, record { same = rw f; within = omega arith })
     go (rejects f) e = absurd (f e)
 
 -- the fields of each kind are among the numbers
 block-comes-back : (block : Block) (mark : Bookmark) → foundBack (foundNumbers block mark) .block ≡ block
-unfolding foundNumbers kindWith blockWith
+unfolding foundNumbers shown kindWith blockWith
 block-comes-back (Inode b) mark = refl
 block-comes-back (Link b) mark = refl
 block-comes-back (Unlink b) mark = refl
@@ -116,18 +116,18 @@ block-comes-back (Data b) mark = refl
 block-comes-back (Rename b) mark = refl
 block-comes-back (Table b) mark = refl
 
-read-crosses : (volume : List ℕ) (mark : Bookmark) → readBack (blockNumbers (readAnswer volume mark)) ≡ readAnswer volume mark
+read-crosses : (volume : List ℕ) (mark : Bookmark) → Crosses blockNumbers readBack (readAnswer volume mark)
 unfolding readBack blockNumbers foundNumbers
 read-crosses volume mark = go (answers volume mark)
   where
-    go : {a : ReadAnswer} → Answers volume mark a → readBack (blockNumbers a) ≡ a
+    go : {a : ReadAnswer} → Answers volume mark a → Crosses blockNumbers readBack a
     go (ends p) = refl
     go (finds p f) =
         ap₂ (λ block next. ReadAnswer.Found (record { block = block; next = next }))
         (block-comes-back (blockAt volume (mark .offset)) (nextMark volume mark)) (bookmark-comes-back (nextMark volume mark))
     go (refuses p f) = rw (ne-eqb (readFault volume mark) 0 f)
 
-check-crosses : (verdict : Verdict) → EndsWell verdict → checkBack (checkNumbers verdict) ≡ verdict
+check-crosses : (verdict : Verdict) → EndsWell verdict → Crosses checkNumbers checkBack verdict
 unfolding checkBack checkNumbers
 check-crosses (Verdict.Accepted a) none-due =
     ap (λ end. Verdict.Accepted (record { sequence = a .sequence; blocks = a .blocks; end = end }))
@@ -139,25 +139,24 @@ check-crosses (Verdict.Refused r) fault = rw (ne-eqb (r .refusal .number) 0 faul
 
 written-crosses : (fault : ℕ) (mark : Bookmark) (answer : WriteAnswer)
     → answer ≡ cond (eqb fault 0) (WriteAnswer.Next mark) (WriteAnswer.Refused (refusalOf fault))
-    → writtenBack (writtenNumbers answer) ≡ answer
+    → Crosses writtenNumbers writtenBack answer
 unfolding writtenBack writtenNumbers
 written-crosses fault mark answer e =
     rw e
     (either (λ a. writtenBack (writtenNumbers a)) (eqb fault 0) (WriteAnswer.Next mark) (WriteAnswer.Refused (refusalOf fault))
     (ap WriteAnswer.Next (bookmark-comes-back mark)) (λ f. rw f))
 
-write-crosses : (room : ℕ) (header : Header) → writtenBack (writtenNumbers (writeAnswer room header)) ≡ writeAnswer room header
+write-crosses : (room : ℕ) (header : Header) → Crosses writtenNumbers writtenBack (writeAnswer room header)
 unfolding writeAnswer
 write-crosses room header = written-crosses (writeFault room header) (firstMark (header .sequence)) (writeAnswer room header) refl
 
-append-crosses : (room : ℕ) (mark : Bookmark) (request : Request)
-    → writtenBack (writtenNumbers (appendAnswer room mark request)) ≡ appendAnswer room mark request
+append-crosses : (room : ℕ) (mark : Bookmark) (block : Asked) → Crosses writtenNumbers writtenBack (appendAnswer room mark block)
 unfolding appendAnswer
-append-crosses room mark request = written-crosses (appendFault room mark request) _ (appendAnswer room mark request) refl
+append-crosses room mark block = written-crosses (appendFault room mark block) _ (appendAnswer room mark block) refl
 
 -- Positions and runs.
 
-position-crosses : (answer : PositionAnswer) → RefusedByNumber answer → positionBack (placeNumbers answer) ≡ answer
+position-crosses : (answer : PositionAnswer) → RefusedByNumber answer → Crosses placeNumbers positionBack answer
 unfolding positionBack placeNumbers
 position-crosses PositionAnswer.Hole n = refl
 position-crosses PositionAnswer.PastEnd n = refl
@@ -165,7 +164,7 @@ position-crosses (PositionAnswer.Stored place) n = refl
 position-crosses (PositionAnswer.Refused refusal) n = rw (ne-eqb (refusal .number) 0 n)
 
 runs-cross : (volume : List ℕ) (offset : ℕ) (lengths : List ℕ) (from to room : ℕ)
-    → runsBack (runCountNumbers (runsAnswer volume offset lengths from to room)) ≡ runsAnswer volume offset lengths from to room
+    → Crosses runCountNumbers runsBack (runsAnswer volume offset lengths from to room)
 unfolding runsAnswer runsBack runCountNumbers
 runs-cross volume offset lengths from to room =
     let fault : ℕ = runsFault volume offset lengths from to room in
@@ -173,11 +172,11 @@ runs-cross volume offset lengths from to room =
 
 -- Extents, and the links of a table.
 
-extent-crosses : (e : Extent) → extentBack (extentNumbers e) ≡ e
+extent-crosses : (e : Extent) → Crosses extentNumbers extentBack e
 unfolding extentBack extentNumbers
 extent-crosses e = refl
 
-link-crosses : (answer : LinkAnswer) → linkBack (linkNumbers answer) ≡ answer
+link-crosses : (answer : LinkAnswer) → Crosses linkNumbers linkBack answer
 unfolding linkBack linkNumbers
 link-crosses (LinkAnswer.Found link) = refl
 link-crosses LinkAnswer.Missing = refl
@@ -187,33 +186,35 @@ unfolding linkNumbers
 links-told (ended e) = none-left (ap (λ a. linkNumbers a .missing) e)
 links-told (handed e others) = told (ap linkNumbers e) refl (links-told others)
 
--- a table by its fields
-table-told : (volume : List ℕ) (table : TableBlock) (next : Bookmark) (links : List TableLink) → Filled volume table
-    → shown volume (Table table) ≡ format.Table links → TableTold volume (foundNumbers (Table table) next) links
-unfolding shown foundNumbers
-table-told volume table next links filled e =
-    let bytes : List ℕ = bytesOf volume (table .links) in
-    let same : linksFrom bytes 0 (table .count) ≡ links = cc in
-    record {
-      a-table = refl;
-      count = sym (length-links bytes (table .count)) ∙ ap length same;
-      in-order = links-told (rw same at (walked-to-the-end bytes (table .count) filled));
-    }
-
-table-crosses : (volume : List ℕ) (mark : Bookmark) (found : Found) (table : TableBlock) (links : List TableLink) → Bytes volume
+-- a table that is read is told by its fields
+table-told : (volume : List ℕ) (mark : Bookmark) (found : Found) (table : TableBlock)
     → readAnswer volume mark ≡ ReadAnswer.Found found → found .block ≡ Table table
-    → shown volume (found .block) ≡ format.Table links
-    → TableTold volume (blockNumbers (readAnswer volume mark)) links
-unfolding blockNumbers
-table-crosses volume mark found table links b e t s =
-    rw (e, t) (table-told volume table (found .next) links (table-handed-out volume mark found table b e t) (rw t at s))
+    → (of : LinksOf (table .count) (bytesOf volume (table .links)))
+    → TableTold volume (blockNumbers (readAnswer volume mark)) (of .links)
+unfolding blockNumbers foundNumbers shown
+table-told volume mark found table e t of =
+    let bytes : List ℕ = bytesOf volume (table .links) in
+    rw (e, t)
+    (record {
+      a-table = refl;
+      count = sym (of .stated);
+      in-order = links-told (rw (links-shown of) at (walked-to-the-end bytes (table .count) (links-fill-bytes of)));
+    })
+
+table-crosses : (volume : List ℕ) (mark : Bookmark) (found : Found) (table : TableBlock) → Bytes volume
+    → readAnswer volume mark ≡ ReadAnswer.Found found → found .block ≡ Table table
+    → (of : LinksOf (table .count) (bytesOf volume (table .links)))
+    × TableTold volume (blockNumbers (readAnswer volume mark)) (of .links)
+table-crosses volume mark found table b e t =
+    let of = table-rules volume mark found table b e t in
+    (of, table-told volume mark found table e t of)
 
 pub everything-crosses : Crossing
 everything-crosses =
     record {
       bookmark = bookmark-comes-back;
       header = header-crosses;
-      header-parts = parts-told;
+      header-parts = fields-told;
       read = read-crosses;
       check = λ volume. check-crosses (checkAnswer volume) (check-ends-well volume);
       write-header = write-crosses;

@@ -1,112 +1,86 @@
--- A block as numbers. What a kind of block does not have is 0.
+-- A block that was read, as numbers: its fields by their names in the layout, and the places of its variable parts.
 use Prim.Native.Nat.{ℕ}
-use mathlib.Core.Option.{Option, none, some}
+use Prim.Native.String.{String}
+use mathlib.Core.Bool.{false, cond}
+use mathlib.Core.List.{List, [], _∷_}
+use lib.ListN.{getD}
+use lib.Text.{eqt}
+use Rattle.format.specs.Layout.{Field, field}
+use Rattle.format.specs.Blocks as format
+use Rattle.format.specs.Blocks.{idOf, layout, kindOf, fields}
+use Rattle.block.specs.Shown.{shown}
 use Rattle.block.specs.declared.Part.{Part}
-use Rattle.block.specs.declared.InodeBlock.{InodeBlock}
-use Rattle.block.specs.declared.LinkBlock.{LinkBlock}
 use Rattle.block.specs.declared.Block.{Block}
 use Rattle.block.specs.declared.Block.the-variants.{Inode, Link, Unlink, Xattr, RemovedXattr, Data, Rename, Table}
+use Rattle.volume.specs.declared.LastTime.the-variants.{Never}
+use Rattle.volume.specs.declared.Bookmark.{Bookmark}
+use Rattle.exchange.specs.Marks.{flagNumber, timedNumber, timeNumber}
+use Rattle.exchange.specs.declared.BlockNumbers.{BlockNumbers}
 
--- the ID of its kind
-abbrev pub idNumber : Block → ℕ
-idNumber (Inode b) = 1
-idNumber (Link b) = 2
-idNumber (Unlink b) = 3
-idNumber (Xattr b) = 4
-idNumber (RemovedXattr b) = 5
-idNumber (Data b) = 6
-idNumber (Rename b) = 7
-idNumber (Table b) = 8
+-- the value of the field with a name; 0 where the layout has no such field
+abbrev pub valueIn : (name : String) (layout : List Field) (values : List ℕ) → ℕ
+valueIn name [] values = 0
+valueIn name (field other width ∷ layout) [] = 0
+valueIn name (field other width ∷ layout) (value ∷ values) = cond (eqt name other) value (valueIn name layout values)
 
--- its time, if it has one
-abbrev pub orZero : Option ℕ → ℕ
-orZero none = 0
-orZero (some time) = time
+-- the fields of a block do not depend on what its variable parts hold, so they are taken with empty ones
+abbrev pub withoutParts : Block → format.Block
+withoutParts block = shown [] block
 
--- the number of the inode that it is about
-abbrev pub inodeNumber : Block → ℕ
-inodeNumber (Inode b) = b .number
-inodeNumber (Link b) = 0
-inodeNumber (Unlink b) = 0
-inodeNumber (Xattr b) = b .number
-inodeNumber (RemovedXattr b) = b .number
-inodeNumber (Data b) = 0
-inodeNumber (Rename b) = 0
-inodeNumber (Table b) = 0
+-- a fixed field of a block, by its name in the layout
+abbrev pub fieldOf : (block : format.Block) (name : String) → ℕ
+fieldOf block name = valueIn name (layout (kindOf block)) (fields block)
 
-abbrev pub noPart : Part
-noPart = record { offset = 0; len = 0 }
+-- the variable parts, in layout order
+abbrev pub parts : Block → List Part
+parts (Inode b) = b .rest ∷ []
+parts (Link b) = b .name ∷ []
+parts (Unlink b) = b .name ∷ []
+parts (Xattr b) = b .name ∷ b .value ∷ []
+parts (RemovedXattr b) = b .name ∷ []
+parts (Data b) = b .payload ∷ []
+parts (Rename b) = b .old ∷ b .new ∷ []
+parts (Table b) = b .links ∷ []
 
--- a link's or an unlink's fields
-abbrev pub noLink : LinkBlock
-noLink = record { time = 0; child = 0; parent = 0; name = noPart }
+-- a part by its number, counted from 0; a block with fewer parts has it at 0, with no bytes
+abbrev pub partWith : (index : ℕ) (parts : List Part) → Part
+partWith index parts = getD parts index (record { offset = 0; len = 0 })
 
-abbrev pub linkFields : Block → LinkBlock
-linkFields (Inode b) = noLink
-linkFields (Link b) = b
-linkFields (Unlink b) = b
-linkFields (Xattr b) = noLink
-linkFields (RemovedXattr b) = noLink
-linkFields (Data b) = noLink
-linkFields (Rename b) = noLink
-linkFields (Table b) = noLink
-
--- an inode's fields
-abbrev pub noInode : InodeBlock
-noInode =
+-- the numbers of an answer: the bookmark after the block, the block's fields by name, and the places of its parts
+abbrev pub numbersWith : (refusal end id : ℕ) (next : Bookmark) (value : String → ℕ) (parts : List Part) → BlockNumbers
+numbersWith refusal end id next value parts =
     record {
-      number = 0;
-      time = 0;
-      mode = 0;
-      uid = 0;
-      gid = 0;
-      atime = 0;
-      mtime = 0;
-      ctime = 0;
-      btime = 0;
-      size = 0;
-      rest = noPart;
+      refusal = refusal;
+      end = end;
+      id = id;
+      next = next .offset;
+      due = flagNumber (next .due);
+      timed = timedNumber (next .last);
+      last = timeNumber (next .last);
+      time = value "time";
+      inode = value "inode";
+      child = value "child";
+      parent = value "parent";
+      mode = value "mode";
+      uid = value "uid";
+      gid = value "gid";
+      atime = value "atime";
+      mtime = value "mtime";
+      ctime = value "ctime";
+      btime = value "btime";
+      size = value "size";
+      count = value "link count";
+      part = partWith 0 parts .offset;
+      partlen = partWith 0 parts .len;
+      second = partWith 1 parts .offset;
+      secondlen = partWith 1 parts .len;
     }
 
-abbrev pub inodeFields : Block → InodeBlock
-inodeFields (Inode b) = b
-inodeFields (Link b) = noInode
-inodeFields (Unlink b) = noInode
-inodeFields (Xattr b) = noInode
-inodeFields (RemovedXattr b) = noInode
-inodeFields (Data b) = noInode
-inodeFields (Rename b) = noInode
-inodeFields (Table b) = noInode
+-- a block and the bookmark after it
+unfoldable pub foundNumbers : Block → (next : Bookmark) → BlockNumbers
+foundNumbers block next =
+    numbersWith 0 0 (idOf (kindOf (withoutParts block))) next (fieldOf (withoutParts block)) (parts block)
 
--- how many links a table has
-abbrev pub linkCount : Block → ℕ
-linkCount (Inode b) = 0
-linkCount (Link b) = 0
-linkCount (Unlink b) = 0
-linkCount (Xattr b) = 0
-linkCount (RemovedXattr b) = 0
-linkCount (Data b) = 0
-linkCount (Rename b) = 0
-linkCount (Table b) = b .count
-
--- the first variable part: target or extents, name, payload, old path, links
-abbrev pub firstPart : Block → Part
-firstPart (Inode b) = b .rest
-firstPart (Link b) = b .name
-firstPart (Unlink b) = b .name
-firstPart (Xattr b) = b .name
-firstPart (RemovedXattr b) = b .name
-firstPart (Data b) = b .payload
-firstPart (Rename b) = b .old
-firstPart (Table b) = b .links
-
--- the second: an xattr's value, a new path
-abbrev pub secondPart : Block → Part
-secondPart (Inode b) = noPart
-secondPart (Link b) = noPart
-secondPart (Unlink b) = noPart
-secondPart (Xattr b) = b .value
-secondPart (RemovedXattr b) = noPart
-secondPart (Data b) = noPart
-secondPart (Rename b) = b .new
-secondPart (Table b) = noPart
+-- no block: a refusal's number, or 1 for "end", and 0 for the rest
+abbrev pub noBlock : (refusal end : ℕ) → BlockNumbers
+noBlock refusal end = numbersWith refusal end 0 (record { offset = 0; due = false; last = Never }) (λ name. 0) []

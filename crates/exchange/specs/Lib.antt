@@ -5,4 +5,5 @@ pub mod Walking
 pub mod Places
 pub mod Sources
 pub mod Writing
+pub mod inner
 pub mod Crossing

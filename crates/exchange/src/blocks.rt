@@ -12,31 +12,30 @@ use block::RenameBlock;
 use block::TableBlock;
 use block::XattrBlock;
 use volume::Bookmark;
+use volume::LastTime;
 ghost use mathlib.Core.Path.{_≡_};
+ghost use mathlib.Core.Bool.{cond};
+ghost use mathlib.Core.List.{[]};
+ghost use lib.Text.{eqt};
 ghost use Rattle.block.specs.declared.Block.the-variants.{Inode, Link, Unlink, Xattr, RemovedXattr, Data, Rename, Table};
-ghost use Rattle.exchange.specs.Walking.{plain, noBlock, begun, foundNumbers};
+ghost use Rattle.exchange.specs.Blocks.{numbersWith, foundNumbers, noBlock};
 
-// The numbers before those that only some kinds of block have, and 0 for these.
-fn plain(
-    refusal: u64,
-    end: u64,
-    id: u64,
-    next: u64,
-    due: u64,
-    timed: u64,
-    last: u64,
-    time: u64,
-) -> BlockNumbers
-    ensures { λ r. ⌜ r ≡ plain refusal end id next due timed last time ⌝ }
+// The numbers that an answer begins with: those that every kind of block has, and 0 for those that only some have.
+fn begun(refusal: u64, end: u64, id: u64, time: u64, next: Bookmark) -> BlockNumbers
+    ensures { λ r. ⌜ r ≡ numbersWith refusal end id next (λ name. cond (eqt name "time") time 0) [] ⌝ }
 {
+    let last = next.last;
+    let due = flag_number(next.due);
+    let timed = timed_number(last);
+    let past = time_number(last);
     BlockNumbers {
         refusal,
         end,
         id,
-        next,
+        next: next.offset as u64,
         due,
         timed,
-        last,
+        last: past,
         time,
         inode: 0,
         child: 0,
@@ -61,24 +60,18 @@ fn plain(
 pub(crate) fn no_block(refusal: u64, end: u64) -> BlockNumbers
     ensures { λ r. ⌜ r ≡ noBlock refusal end ⌝ }
 {
-    plain(refusal, end, 0, 0, 0, 0, 0, 0)
-}
-
-// A block of the given kind and time, and the bookmark after it.
-fn begun(id: u64, time: u64, next: Bookmark) -> BlockNumbers
-    ensures { λ r. ⌜ r ≡ begun id time next ⌝ }
-{
-    let last = next.last;
-    let due = flag_number(next.due);
-    let timed = timed_number(last);
-    let past = time_number(last);
-    plain(0, 0, id, next.offset as u64, due, timed, past, time)
+    let none = Bookmark {
+        offset: 0,
+        due: false,
+        last: LastTime::Never,
+    };
+    begun(refusal, end, 0, 0, none)
 }
 
 fn inode_numbers(block: InodeBlock, next: Bookmark) -> BlockNumbers
     ensures { λ r. ⌜ r ≡ foundNumbers (Inode block) next ⌝ }
 {
-    let mut numbers = begun(1, block.time, next);
+    let mut numbers = begun(0, 0, 1, block.time, next);
     let rest = block.rest;
     numbers.inode = block.number;
     numbers.mode = block.mode as u64;
@@ -98,7 +91,7 @@ fn inode_numbers(block: InodeBlock, next: Bookmark) -> BlockNumbers
 fn link_numbers(block: LinkBlock, next: Bookmark) -> BlockNumbers
     ensures { λ r. ⌜ r ≡ foundNumbers (Link block) next ⌝ }
 {
-    let mut numbers = begun(2, block.time, next);
+    let mut numbers = begun(0, 0, 2, block.time, next);
     let name = block.name;
     numbers.child = block.child;
     numbers.parent = block.parent;
@@ -118,7 +111,7 @@ fn unlink_numbers(block: LinkBlock, next: Bookmark) -> BlockNumbers
 fn xattr_numbers(block: XattrBlock, next: Bookmark) -> BlockNumbers
     ensures { λ r. ⌜ r ≡ foundNumbers (Xattr block) next ⌝ }
 {
-    let mut numbers = begun(4, block.time, next);
+    let mut numbers = begun(0, 0, 4, block.time, next);
     let name = block.name;
     let value = block.value;
     numbers.inode = block.number;
@@ -132,7 +125,7 @@ fn xattr_numbers(block: XattrBlock, next: Bookmark) -> BlockNumbers
 fn removed_xattr_numbers(block: RemovedXattrBlock, next: Bookmark) -> BlockNumbers
     ensures { λ r. ⌜ r ≡ foundNumbers (RemovedXattr block) next ⌝ }
 {
-    let mut numbers = begun(5, block.time, next);
+    let mut numbers = begun(0, 0, 5, block.time, next);
     let name = block.name;
     numbers.inode = block.number;
     numbers.part = name.offset as u64;
@@ -143,7 +136,7 @@ fn removed_xattr_numbers(block: RemovedXattrBlock, next: Bookmark) -> BlockNumbe
 fn data_numbers(block: DataBlock, next: Bookmark) -> BlockNumbers
     ensures { λ r. ⌜ r ≡ foundNumbers (Data block) next ⌝ }
 {
-    let mut numbers = begun(6, block.time, next);
+    let mut numbers = begun(0, 0, 6, block.time, next);
     let payload = block.payload;
     numbers.part = payload.offset as u64;
     numbers.partlen = payload.len as u64;
@@ -153,7 +146,7 @@ fn data_numbers(block: DataBlock, next: Bookmark) -> BlockNumbers
 fn rename_numbers(block: RenameBlock, next: Bookmark) -> BlockNumbers
     ensures { λ r. ⌜ r ≡ foundNumbers (Rename block) next ⌝ }
 {
-    let mut numbers = begun(7, block.time, next);
+    let mut numbers = begun(0, 0, 7, block.time, next);
     let old = block.old;
     let new = block.new;
     numbers.part = old.offset as u64;
@@ -166,7 +159,7 @@ fn rename_numbers(block: RenameBlock, next: Bookmark) -> BlockNumbers
 fn table_numbers(block: TableBlock, next: Bookmark) -> BlockNumbers
     ensures { λ r. ⌜ r ≡ foundNumbers (Table block) next ⌝ }
 {
-    let mut numbers = begun(8, 0, next);
+    let mut numbers = begun(0, 0, 8, 0, next);
     let links = block.links;
     numbers.count = block.count;
     numbers.part = links.offset as u64;

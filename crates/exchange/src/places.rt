@@ -7,7 +7,7 @@ use lookup::RunsAnswer;
 use lookup::query;
 ghost use mathlib.Core.Path.{_≡_};
 ghost use lib.ListN.{length};
-ghost use Rattle.lookup.specs.Lookup.{positionAnswer, runsAnswer, runsRoom};
+ghost use Rattle.lookup.specs.inner.Answers.{positionAnswer, runsAnswer, runsRoom};
 ghost use Rattle.exchange.specs.Places.{placeNumbers, runCountNumbers};
 
 // What stands at a position of the file whose inode block is at `offset`, in one call.

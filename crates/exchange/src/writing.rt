@@ -11,7 +11,7 @@ use volume::WriteAnswer;
 use volume::heading::write_header;
 ghost use mathlib.Core.Path.{_≡_};
 ghost use lib.ListN.{length};
-ghost use Rattle.request.specs.Requests.{Inode, Link, Unlink, Xattr, RemovedXattr, Data, Rename, Table};
+ghost use Rattle.format.specs.Blocks.{Inode, Link, Unlink, Xattr, RemovedXattr, Data, Rename, Table};
 ghost use Rattle.volume.specs.Writing.{appendAnswer, appendBuffer, writeAnswer, writeBuffer};
 ghost use Rattle.exchange.specs.Marks.{bookmarkOf};
 ghost use Rattle.exchange.specs.Writing.{writtenNumbers};
@@ -78,9 +78,9 @@ pub extern "C" fn hdrfs_append_inode(
     rest: &[u8],
 ) -> MarkNumbers
     ensures answer { λ r. ⌜ r ≡ writtenNumbers (appendAnswer (length (now (buf .entry))) (bookmarkOf offset due timed last)
-        (Inode inode time mode uid gid atime mtime ctime btime size (now (rest .entry)))) ⌝ }
+        (Inode (record { inode = inode; time = time; mode = mode; uid = uid; gid = gid; atime = atime; mtime = mtime; ctime = ctime; btime = btime; size = size; rest = now (rest .entry) }))) ⌝ }
     ensures buffer { λ _. ⌜ now (buf .exit) ≡ appendBuffer (now (buf .entry)) (bookmarkOf offset due timed last)
-        (Inode inode time mode uid gid atime mtime ctime btime size (now (rest .entry))) ⌝ }
+        (Inode (record { inode = inode; time = time; mode = mode; uid = uid; gid = gid; atime = atime; mtime = mtime; ctime = ctime; btime = btime; size = size; rest = now (rest .entry) })) ⌝ }
 {
     let mark = bookmark_of(offset, due, timed, last);
     written_numbers(mark.append_inode(
@@ -113,9 +113,9 @@ pub extern "C" fn hdrfs_append_link(
     name: &[u8],
 ) -> MarkNumbers
     ensures answer { λ r. ⌜ r ≡ writtenNumbers (appendAnswer (length (now (buf .entry))) (bookmarkOf offset due timed last)
-        (Link time child parent (now (name .entry)))) ⌝ }
+        (Link (record { time = time; child = child; parent = parent; name = now (name .entry) }))) ⌝ }
     ensures buffer { λ _. ⌜ now (buf .exit) ≡ appendBuffer (now (buf .entry)) (bookmarkOf offset due timed last)
-        (Link time child parent (now (name .entry))) ⌝ }
+        (Link (record { time = time; child = child; parent = parent; name = now (name .entry) })) ⌝ }
 {
     let mark = bookmark_of(offset, due, timed, last);
     written_numbers(mark.append_link(buf, time, child, parent, name))
@@ -135,9 +135,9 @@ pub extern "C" fn hdrfs_append_unlink(
     name: &[u8],
 ) -> MarkNumbers
     ensures answer { λ r. ⌜ r ≡ writtenNumbers (appendAnswer (length (now (buf .entry))) (bookmarkOf offset due timed last)
-        (Unlink time child parent (now (name .entry)))) ⌝ }
+        (Unlink (record { time = time; child = child; parent = parent; name = now (name .entry) }))) ⌝ }
     ensures buffer { λ _. ⌜ now (buf .exit) ≡ appendBuffer (now (buf .entry)) (bookmarkOf offset due timed last)
-        (Unlink time child parent (now (name .entry))) ⌝ }
+        (Unlink (record { time = time; child = child; parent = parent; name = now (name .entry) })) ⌝ }
 {
     let mark = bookmark_of(offset, due, timed, last);
     written_numbers(mark.append_unlink(buf, time, child, parent, name))
@@ -157,9 +157,9 @@ pub extern "C" fn hdrfs_append_xattr(
     value: &[u8],
 ) -> MarkNumbers
     ensures answer { λ r. ⌜ r ≡ writtenNumbers (appendAnswer (length (now (buf .entry))) (bookmarkOf offset due timed last)
-        (Xattr time inode (now (name .entry)) (now (value .entry)))) ⌝ }
+        (Xattr (record { time = time; inode = inode; name = now (name .entry); value = now (value .entry) }))) ⌝ }
     ensures buffer { λ _. ⌜ now (buf .exit) ≡ appendBuffer (now (buf .entry)) (bookmarkOf offset due timed last)
-        (Xattr time inode (now (name .entry)) (now (value .entry))) ⌝ }
+        (Xattr (record { time = time; inode = inode; name = now (name .entry); value = now (value .entry) })) ⌝ }
 {
     let mark = bookmark_of(offset, due, timed, last);
     written_numbers(mark.append_xattr(buf, time, inode, name, value))
@@ -178,9 +178,9 @@ pub extern "C" fn hdrfs_append_removed_xattr(
     name: &[u8],
 ) -> MarkNumbers
     ensures answer { λ r. ⌜ r ≡ writtenNumbers (appendAnswer (length (now (buf .entry))) (bookmarkOf offset due timed last)
-        (RemovedXattr time inode (now (name .entry)))) ⌝ }
+        (RemovedXattr (record { time = time; inode = inode; name = now (name .entry) }))) ⌝ }
     ensures buffer { λ _. ⌜ now (buf .exit) ≡ appendBuffer (now (buf .entry)) (bookmarkOf offset due timed last)
-        (RemovedXattr time inode (now (name .entry))) ⌝ }
+        (RemovedXattr (record { time = time; inode = inode; name = now (name .entry) })) ⌝ }
 {
     let mark = bookmark_of(offset, due, timed, last);
     written_numbers(mark.append_removed_xattr(buf, time, inode, name))
@@ -198,9 +198,9 @@ pub extern "C" fn hdrfs_append_data(
     payload: &[u8],
 ) -> MarkNumbers
     ensures answer { λ r. ⌜ r ≡ writtenNumbers (appendAnswer (length (now (buf .entry))) (bookmarkOf offset due timed last)
-        (Data time (now (payload .entry)))) ⌝ }
+        (Data (record { time = time; payload = now (payload .entry) }))) ⌝ }
     ensures buffer { λ _. ⌜ now (buf .exit) ≡ appendBuffer (now (buf .entry)) (bookmarkOf offset due timed last)
-        (Data time (now (payload .entry))) ⌝ }
+        (Data (record { time = time; payload = now (payload .entry) })) ⌝ }
 {
     let mark = bookmark_of(offset, due, timed, last);
     written_numbers(mark.append_data(buf, time, payload))
@@ -219,9 +219,9 @@ pub extern "C" fn hdrfs_append_rename(
     new: &[u8],
 ) -> MarkNumbers
     ensures answer { λ r. ⌜ r ≡ writtenNumbers (appendAnswer (length (now (buf .entry))) (bookmarkOf offset due timed last)
-        (Rename time (now (old .entry)) (now (new .entry)))) ⌝ }
+        (Rename (record { time = time; old = now (old .entry); new = now (new .entry) }))) ⌝ }
     ensures buffer { λ _. ⌜ now (buf .exit) ≡ appendBuffer (now (buf .entry)) (bookmarkOf offset due timed last)
-        (Rename time (now (old .entry)) (now (new .entry))) ⌝ }
+        (Rename (record { time = time; old = now (old .entry); new = now (new .entry) })) ⌝ }
 {
     let mark = bookmark_of(offset, due, timed, last);
     written_numbers(mark.append_rename(buf, time, old, new))
@@ -239,9 +239,9 @@ pub extern "C" fn hdrfs_append_table(
     links: &[u8],
 ) -> MarkNumbers
     ensures answer { λ r. ⌜ r ≡ writtenNumbers (appendAnswer (length (now (buf .entry))) (bookmarkOf offset due timed last)
-        (Table count (now (links .entry)))) ⌝ }
+        (Table (record { count = count; links = now (links .entry) }))) ⌝ }
     ensures buffer { λ _. ⌜ now (buf .exit) ≡ appendBuffer (now (buf .entry)) (bookmarkOf offset due timed last)
-        (Table count (now (links .entry))) ⌝ }
+        (Table (record { count = count; links = now (links .entry) })) ⌝ }
 {
     let mark = bookmark_of(offset, due, timed, last);
     written_numbers(mark.append_table(buf, count, links))

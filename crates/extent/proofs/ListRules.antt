@@ -1,10 +1,9 @@
 -- A list of bytes passes the tests on extents exactly if it is the list of extents that keep the rules. Assumes nothing.
 use Prim.Native.Nat.{ℕ, zero, suc, _+_, _*_, _%_, _≤_}
-use mathlib.Core.Path.{_≡_, refl, sym, ap, ap₂, _∙_}
+use mathlib.Core.Path.{_≡_, refl, sym, ap, ap₂, subst, _∙_}
 use mathlib.Core.Bool.{false, not}
 use mathlib.Core.List.{List, [], _∷_, _++_}
 use mathlib.Mathlib.Data.Bool.Basic.{eq-false-of-not-eq-true}
-use native.Mathlib.Nat.{add-zero}
 use native.Mathlib.Omega.{arith}
 use lib.ListN.{length, take, drop, getD, length-append, length-drop}
 use lib.Seq.{take-add, take-all, drop-drop, drop-at}
@@ -12,13 +11,14 @@ use Rattle.number.specs.Number.{Bytes}
 use Rattle.number.proofs.Digits.{bytes-drop}
 use Rattle.checks.proofs.Scan.{never, any-nowhere, pair-false, pair-nowhere}
 use Rattle.format.specs.declared.Extent.{Extent}
-use Rattle.format.specs.Layout.{laid, All}
+use Rattle.format.specs.Layout.{Fit, laid, All}
 use Rattle.format.specs.Extents.{extentWidths, extentFields, extentList, ExtentRules, KeepsPosition, Apart}
 use Rattle.format.specs.Blocks.{ExtentsOf}
 use Rattle.format.proofs.Listed.{listed, length-listed, listed-same, all-listed, listed-all, pairs-listed, listed-pairs}
-use Rattle.format.proofs.Fields.{valuesIn, length-laid, values-laid, laid-values, values-listed}
-use Rattle.extent.specs.Extents.{extentAt, extentCount, someBroken, someOverlap}
-use Rattle.extent.proofs.Sound.{sound-rules, rules-sound, fields-fit, each-sound}
+use Rattle.format.proofs.Fields.{valuesIn, length-laid, values-laid, laid-values, fit-values, values-listed}
+use Rattle.extent.specs.Extents.{extentAt, extentCount}
+use Rattle.extent.specs.inner.Tests.{someBroken, someOverlap}
+use Rattle.extent.proofs.Sound.{sound-rules, rules-sound, each-sound}
 use Rattle.extent.proofs.Share.{share-position, position-share}
 
 -- an extent from the values of its fields
@@ -37,11 +37,18 @@ extentOf values =
 
 at-values : (list : List ℕ) (index : ℕ) → extentAt list index ≡ extentOf (valuesIn extentWidths (drop (57 * index) list))
 unfolding extentAt
-at-values list index = rw (values-listed extentWidths list (57 * index), add-zero (57 * index))
+at-values list index = rw (values-listed extentWidths list (57 * index))
 
-at-zero : (list : List ℕ) → extentFields (extentAt list 0) ≡ valuesIn extentWidths list
+-- the fields of an extent stand where it is read
+pub fields-stand : (list : List ℕ) (index : ℕ) → extentFields (extentAt list index) ≡ valuesIn extentWidths (drop (57 * index) list)
 unfolding valuesIn
-at-zero list = rw (at-values list 0)
+fields-stand list index = rw (at-values list index)
+
+-- and fit, where bytes stand there
+pub fields-fit : (list : List ℕ) → Bytes list → (index : ℕ) → Fit extentWidths (extentFields (extentAt list index))
+fields-fit list b index =
+    subst (Fit extentWidths) (sym (fields-stand list index))
+    (fit-values extentWidths (drop (57 * index) list) (bytes-drop (57 * index) list b))
 
 at-suc : (list : List ℕ) (index : ℕ) → extentAt list (suc index) ≡ extentAt (drop 57 list) index
 at-suc list index =
@@ -64,7 +71,7 @@ list-extents zero list b h = refl
 list-extents (suc count) list b h =
     let e : 57 * suc count ≡ 57 + 57 * count = omega arith in
     let k : 57 * count ≤ length (drop 57 list) = omega (arith, length-drop 57 list) in
-    rw (e, take-add 57 (57 * count) list, at-zero list, after-first list count)
+    rw (e, take-add 57 (57 * count) list, fields-stand list 0, after-first list count)
     (ap₂ _++_ (laid-values extentWidths list b (omega arith)) (list-extents count (drop 57 list) (bytes-drop 57 list b) k))
 
 -- Extents laid out are read back.

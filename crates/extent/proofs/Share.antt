@@ -6,7 +6,7 @@ use native.Mathlib.Omega.{arith}
 use borrow.Author.Tests.{lt-ltb, ltb-true}
 use Rattle.format.specs.declared.Extent.{Extent}
 use Rattle.format.specs.Extents.{keptLength, KeepsPosition}
-use Rattle.extent.specs.Extents.{shareRange}
+use Rattle.extent.specs.inner.Tests.{shareRange}
 
 module _ (d e : Extent) where
   -- where a shared part starts and ends

@@ -1,19 +1,18 @@
 -- The rules of one extent as facts: `isSound` tests just these, and with fields that fit they are the format's rules. Assumes nothing.
-use Prim.Native.Nat.{ℕ, _+_, _*_, _^_, _≤_, _<_}
-use mathlib.Core.Path.{_≡_}
+use Prim.Native.Nat.{ℕ, _+_, _≤_, _<_}
+use mathlib.Core.Path.{_≡_, refl}
 use mathlib.Core.Bool.{Bool, true, false, not, _||_, and-eq-true-iff}
 use mathlib.Core.Logic.{_⊎_, inl, inr, ⊎-elim}
 use mathlib.Mathlib.Data.Bool.Basic.{dichotomy, or-inl, or-inr}
 use mathlib.Core.List.{List}
 use lib.Dec.{leb, eqb}
 use borrow.Author.Tests.{leb-true, eqb-true, le-leb, eq-eqb, not-false}
-use Rattle.number.specs.Number.{Bytes, numberAt}
-use Rattle.number.proofs.Digits.{numberAt-lt}
 use Rattle.checks.proofs.Scan.{or-cases, any-false}
 use Rattle.format.specs.declared.Extent.{Extent}
 use Rattle.format.specs.Layout.{Fit}
 use Rattle.format.specs.Extents.{extentWidths, extentFields, top, rawLength, keptLength, footprint, ExtentRules}
-use Rattle.extent.specs.Extents.{extentAt, extentCount, isSound, someBroken}
+use Rattle.extent.specs.Extents.{extentAt, extentCount}
+use Rattle.extent.specs.inner.Tests.{isSound, someBroken}
 
 -- the rules of one extent, but for the widths of its fields: no sum and no product is more than 64 bits hold
 pub record Bounded (e : Extent) : Type 0 where
@@ -88,14 +87,6 @@ rules-sound e r =
       logical = r .logical;
       physical = r .physical;
     })
-
--- the fields of an extent that stands in bytes fit
-pub fields-fit : (list : List ℕ) → Bytes list → (i : ℕ) → Fit extentWidths (extentFields (extentAt list i))
-unfolding extentAt
-fields-fit list h i =
-    let fits : (offset width : ℕ) → numberAt list (57 * i + offset) width < 256 ^ width
-    = λ offset width. numberAt-lt list (57 * i + offset) width h in
-    (numberAt-lt list (57 * i) 8 h, (fits 8 8, (fits 16 8, (fits 24 1, (fits 25 8, (fits 33 8, (fits 41 8, (fits 49 8, tt))))))))
 
 -- a list with no broken extent: each is sound
 pub each-sound : (list : List ℕ) → someBroken list ≡ false → (i : ℕ) → i < extentCount list → isSound (extentAt list i) ≡ true

@@ -1,2 +1,2 @@
 pub mod Extents
-pub mod Ranges
+pub mod inner

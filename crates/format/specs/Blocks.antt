@@ -8,7 +8,7 @@ use lib.ListN.{length}
 use Rattle.number.specs.Number.{Bytes}
 use Rattle.utf8.specs.Grammar.{WellFormed}
 use Rattle.format.specs.declared.Extent.{Extent}
-use Rattle.format.specs.Layout.{Fit, laid, sealed, All}
+use Rattle.format.specs.Layout.{Field, field, widthsIn, Fit, laid, sealed, All}
 use Rattle.format.specs.Extents.{extentList, ExtentRules, Apart}
 
 pub data Kind : Type 0 where
@@ -25,32 +25,43 @@ idOf dataBlock = 6
 idOf renameBlock = 7
 idOf linkTable = 8
 
--- the widths of the fields between the ID and the first variable part
-abbrev pub widths : Kind → List ℕ
--- inode 8, time 8, mode 2, uid 2, gid 2, atime 8, mtime 8, ctime 8, btime 8, size 8, n 8
-widths inodeBlock = 8 ∷ 8 ∷ 2 ∷ 2 ∷ 2 ∷ 8 ∷ 8 ∷ 8 ∷ 8 ∷ 8 ∷ 8 ∷ []
--- time 8, child 8, parent 8, n 2
-widths linkBlock = 8 ∷ 8 ∷ 8 ∷ 2 ∷ []
-widths unlinkBlock = 8 ∷ 8 ∷ 8 ∷ 2 ∷ []
--- time 8, inode 8, n 1, m 2
-widths xattrBlock = 8 ∷ 8 ∷ 1 ∷ 2 ∷ []
--- time 8, inode 8, n 1
-widths removedXattrBlock = 8 ∷ 8 ∷ 1 ∷ []
--- time 8, n 8
-widths dataBlock = 8 ∷ 8 ∷ []
--- time 8, n 2, m 2
-widths renameBlock = 8 ∷ 2 ∷ 2 ∷ []
--- link count 8
-widths linkTable = 8 ∷ []
+-- the fields between the ID and the first variable part: the fixed fields
+abbrev pub layout : Kind → List Field
+layout inodeBlock =
+    field "inode" 8
+    ∷ field "time" 8
+    ∷ field "mode" 2
+    ∷ field "uid" 2
+    ∷ field "gid" 2
+    ∷ field "atime" 8
+    ∷ field "mtime" 8
+    ∷ field "ctime" 8
+    ∷ field "btime" 8
+    ∷ field "size" 8
+    ∷ field "n" 8
+    ∷ []
+layout linkBlock = field "time" 8 ∷ field "child" 8 ∷ field "parent" 8 ∷ field "n" 2 ∷ []
+layout unlinkBlock = field "time" 8 ∷ field "child" 8 ∷ field "parent" 8 ∷ field "n" 2 ∷ []
+layout xattrBlock = field "time" 8 ∷ field "inode" 8 ∷ field "n" 1 ∷ field "m" 2 ∷ []
+layout removedXattrBlock = field "time" 8 ∷ field "inode" 8 ∷ field "n" 1 ∷ []
+layout dataBlock = field "time" 8 ∷ field "n" 8 ∷ []
+layout renameBlock = field "time" 8 ∷ field "n" 2 ∷ field "m" 2 ∷ []
+layout linkTable = field "link count" 8 ∷ []
 
--- a link of a table: child 8, parent 8, m 2, name m
+abbrev pub widths : Kind → List ℕ
+widths kind = widthsIn (layout kind)
+
+-- a link of a table: these fields and a name of m bytes
 pub record TableLink : Type 0 where
   pub child : ℕ
   pub parent : ℕ
   pub name : List ℕ
 
+abbrev pub linkLayout : List Field
+linkLayout = field "child" 8 ∷ field "parent" 8 ∷ field "m" 2 ∷ []
+
 abbrev pub linkWidths : List ℕ
-linkWidths = 8 ∷ 8 ∷ 2 ∷ []
+linkWidths = widthsIn linkLayout
 
 abbrev pub linkFields : TableLink → List ℕ
 linkFields link = link .child ∷ link .parent ∷ length (link .name) ∷ []
@@ -62,49 +73,105 @@ unfoldable pub linkList : List TableLink → List ℕ
 linkList [] = []
 linkList (link ∷ links) = linkImage link ++ linkList links
 
--- a block, with the values of its fields. An inode's `rest` is its n bytes: a target or a list of extents
+-- What stands in a block of each kind. An inode's n bytes are a target or a list of extents.
+pub record InodeFields : Type 0 where
+  pub inode : ℕ
+  pub time : ℕ
+  pub mode : ℕ
+  pub uid : ℕ
+  pub gid : ℕ
+  pub atime : ℕ
+  pub mtime : ℕ
+  pub ctime : ℕ
+  pub btime : ℕ
+  pub size : ℕ
+  pub rest : List ℕ
+
+pub record LinkFields : Type 0 where
+  pub time : ℕ
+  pub child : ℕ
+  pub parent : ℕ
+  pub name : List ℕ
+
+pub record XattrFields : Type 0 where
+  pub time : ℕ
+  pub inode : ℕ
+  pub name : List ℕ
+  pub value : List ℕ
+
+pub record RemovedXattrFields : Type 0 where
+  pub time : ℕ
+  pub inode : ℕ
+  pub name : List ℕ
+
+pub record DataFields : Type 0 where
+  pub time : ℕ
+  pub payload : List ℕ
+
+pub record RenameFields : Type 0 where
+  pub time : ℕ
+  pub old : List ℕ
+  pub new : List ℕ
+
+-- the bytes of the links, one after the other
+pub record TableFields : Type 0 where
+  pub count : ℕ
+  pub links : List ℕ
+
+-- a block, as it stands in a volume and as an append is asked for it
 pub data Block : Type 0 where
-  Inode : (number time mode uid gid atime mtime ctime btime size : ℕ) (rest : List ℕ) → Block
-  Link : (time child parent : ℕ) (name : List ℕ) → Block
-  Unlink : (time child parent : ℕ) (name : List ℕ) → Block
-  Xattr : (time number : ℕ) (name value : List ℕ) → Block
-  RemovedXattr : (time number : ℕ) (name : List ℕ) → Block
-  Data : (time : ℕ) (payload : List ℕ) → Block
-  Rename : (time : ℕ) (old new : List ℕ) → Block
-  Table : (links : List TableLink) → Block
+  Inode : InodeFields → Block
+  Link : LinkFields → Block
+  Unlink : LinkFields → Block
+  Xattr : XattrFields → Block
+  RemovedXattr : RemovedXattrFields → Block
+  Data : DataFields → Block
+  Rename : RenameFields → Block
+  Table : TableFields → Block
 
 abbrev pub kindOf : Block → Kind
-kindOf (Inode number time mode uid gid atime mtime ctime btime size rest) = inodeBlock
-kindOf (Link time child parent name) = linkBlock
-kindOf (Unlink time child parent name) = unlinkBlock
-kindOf (Xattr time number name value) = xattrBlock
-kindOf (RemovedXattr time number name) = removedXattrBlock
-kindOf (Data time payload) = dataBlock
-kindOf (Rename time old new) = renameBlock
-kindOf (Table links) = linkTable
+kindOf (Inode b) = inodeBlock
+kindOf (Link b) = linkBlock
+kindOf (Unlink b) = unlinkBlock
+kindOf (Xattr b) = xattrBlock
+kindOf (RemovedXattr b) = removedXattrBlock
+kindOf (Data b) = dataBlock
+kindOf (Rename b) = renameBlock
+kindOf (Table b) = linkTable
 
--- the values of the fields before the first variable part
+-- the values of the fixed fields, in layout order
 abbrev pub fields : Block → List ℕ
-fields (Inode number time mode uid gid atime mtime ctime btime size rest) =
-    number ∷ time ∷ mode ∷ uid ∷ gid ∷ atime ∷ mtime ∷ ctime ∷ btime ∷ size ∷ length rest ∷ []
-fields (Link time child parent name) = time ∷ child ∷ parent ∷ length name ∷ []
-fields (Unlink time child parent name) = time ∷ child ∷ parent ∷ length name ∷ []
-fields (Xattr time number name value) = time ∷ number ∷ length name ∷ length value ∷ []
-fields (RemovedXattr time number name) = time ∷ number ∷ length name ∷ []
-fields (Data time payload) = time ∷ length payload ∷ []
-fields (Rename time old new) = time ∷ length old ∷ length new ∷ []
-fields (Table links) = length links ∷ []
+fields (Inode b) =
+    b .inode
+    ∷ b .time
+    ∷ b .mode
+    ∷ b .uid
+    ∷ b .gid
+    ∷ b .atime
+    ∷ b .mtime
+    ∷ b .ctime
+    ∷ b .btime
+    ∷ b .size
+    ∷ length (b .rest)
+    ∷ []
+fields (Link b) = b .time ∷ b .child ∷ b .parent ∷ length (b .name) ∷ []
+fields (Unlink b) = b .time ∷ b .child ∷ b .parent ∷ length (b .name) ∷ []
+fields (Xattr b) = b .time ∷ b .inode ∷ length (b .name) ∷ length (b .value) ∷ []
+fields (RemovedXattr b) = b .time ∷ b .inode ∷ length (b .name) ∷ []
+fields (Data b) = b .time ∷ length (b .payload) ∷ []
+fields (Rename b) = b .time ∷ length (b .old) ∷ length (b .new) ∷ []
+fields (Table b) = b .count ∷ []
 
 -- the variable parts, in layout order
 abbrev pub body : Block → List ℕ
-body (Inode number time mode uid gid atime mtime ctime btime size rest) = rest
-body (Link time child parent name) = name
-body (Unlink time child parent name) = name
-body (Xattr time number name value) = name ++ value
-body (RemovedXattr time number name) = name
-body (Data time payload) = payload
-body (Rename time old new) = old ++ new
-body (Table links) = linkList links
+body (Inode b) = b .rest
+body (Link b) = b .name
+body (Unlink b) = b .name
+body (Xattr b) = b .name ++ b .value
+body (RemovedXattr b) = b .name
+body (Data b) = b .payload
+body (Rename b) = b .old ++ b .new
+body (Table b) = b .links
 
 -- a block's image: its bytes by the layout, CRC included
 unfoldable pub image : Block → List ℕ
@@ -144,16 +211,25 @@ abbrev pub Distinct : List TableLink → Type 0
 Distinct [] = Unit {0}
 Distinct (a ∷ links) = All (λ b. SameLink a b → ⊥) links × Distinct links
 
+-- a table's bytes are exactly the stated links, at most 4,096, each by its rules, and no two alike
+pub record LinksOf (count : ℕ) (bytes : List ℕ) : Type 0 where
+  pub links : List TableLink
+  pub laid-out : linkList links ≡ bytes
+  pub stated : length links ≡ count
+  pub few : count ≤ 4096
+  pub each : All LinkRules links
+  pub distinct : Distinct links
+
 -- the rules of each kind
 abbrev pub KindRules : Block → Type 0
-KindRules (Inode number time mode uid gid atime mtime ctime btime size rest) = InodeRules (fileType mode) size rest
-KindRules (Link time child parent name) = WellFormed name
-KindRules (Unlink time child parent name) = WellFormed name
-KindRules (Xattr time number name value) = WellFormed name
-KindRules (RemovedXattr time number name) = WellFormed name
-KindRules (Data time payload) = Unit {0}
-KindRules (Rename time old new) = WellFormed old × WellFormed new
-KindRules (Table links) = (length links ≤ 4096) × (All LinkRules links × Distinct links)
+KindRules (Inode b) = InodeRules (fileType (b .mode)) (b .size) (b .rest)
+KindRules (Link b) = WellFormed (b .name)
+KindRules (Unlink b) = WellFormed (b .name)
+KindRules (Xattr b) = WellFormed (b .name)
+KindRules (RemovedXattr b) = WellFormed (b .name)
+KindRules (Data b) = Unit {0}
+KindRules (Rename b) = WellFormed (b .old) × WellFormed (b .new)
+KindRules (Table b) = LinksOf (b .count) (b .links)
 
 -- the rules inside blocks: each value fits its field, the variable parts are bytes, and the kind's own rules
 pub record BlockRules (block : Block) : Type 0 where

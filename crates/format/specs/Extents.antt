@@ -6,11 +6,23 @@ use mathlib.Core.Bool.{cond}
 use mathlib.Core.List.{List, [], _∷_, _++_}
 use lib.Dec.{eqb}
 use Rattle.format.specs.declared.Extent.{Extent}
-use Rattle.format.specs.Layout.{Fit, laid, All}
+use Rattle.format.specs.Layout.{Field, field, widthsIn, Fit, laid, All}
 
--- volume 8, start (P) 8, block size (S) 8, multiplicity 1, count (C) 8, pre 8, post 8, logical start (Q) 8
+-- volume, start (P), block size (S), multiplicity, count (C), pre, post, logical start (Q)
+abbrev pub extentLayout : List Field
+extentLayout =
+    field "volume" 8
+    ∷ field "P" 8
+    ∷ field "S" 8
+    ∷ field "multiplicity" 1
+    ∷ field "C" 8
+    ∷ field "pre" 8
+    ∷ field "post" 8
+    ∷ field "Q" 8
+    ∷ []
+
 abbrev pub extentWidths : List ℕ
-extentWidths = 8 ∷ 8 ∷ 8 ∷ 1 ∷ 8 ∷ 8 ∷ 8 ∷ 8 ∷ []
+extentWidths = widthsIn extentLayout
 
 abbrev pub extentFields : Extent → List ℕ
 extentFields e =

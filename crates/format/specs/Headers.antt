@@ -4,7 +4,7 @@ use mathlib.Core.Path.{_≡_}
 use mathlib.Core.List.{List, [], _∷_, _++_}
 use lib.ListN.{length, replicate}
 use Rattle.number.specs.Number.{Bytes, leBytes}
-use Rattle.format.specs.Layout.{sealed}
+use Rattle.format.specs.Layout.{Field, field, sealed}
 
 pub record Header : Type 0 where
   pub id : List ℕ
@@ -16,8 +16,19 @@ abbrev pub magic : List ℕ
 magic =
     0xD3 ∷ 0x48 ∷ 0x44 ∷ 0x52 ∷ 0x46 ∷ 0x53 ∷ 0x0D ∷ 0x0A ∷ 0x1A ∷ 0x0A ∷ 0x00 ∷ 0x48 ∷ 0x44 ∷ 0x52 ∷ 0x46 ∷ 0x53 ∷ 0x00 ∷ []
 
--- magic 17, version 1, file system ID 16, CRC algorithm 1, hash algorithm 1, sequence number 8, previous hash 32.
--- Version and both algorithms are 0
+-- the fields before the CRC
+abbrev pub headerLayout : List Field
+headerLayout =
+    field "magic" 17
+    ∷ field "version" 1
+    ∷ field "file system ID" 16
+    ∷ field "CRC algorithm" 1
+    ∷ field "hash algorithm" 1
+    ∷ field "sequence number" 8
+    ∷ field "previous hash" 32
+    ∷ []
+
+-- version and both algorithms are 0
 unfoldable pub headerFields : Header → List ℕ
 headerFields header = magic ++ (0 ∷ header .id ++ (0 ∷ 0 ∷ leBytes 8 (header .sequence) ++ header .previous))
 

@@ -1,8 +1,28 @@
 -- Fields laid out one after the other, and the checksum at the end. All numbers are unsigned and little-endian.
 use Prim.Native.Nat.{ℕ, _+_, _^_, _<_}
+use Prim.Native.String.{String}
+use mathlib.Core.Bool.{cond}
 use mathlib.Core.List.{List, [], _∷_, _++_}
+use lib.Text.{eqt}
 use Rattle.number.specs.Number.{leBytes}
 use Rattle.crc32.specs.Crc.{crc}
+
+-- a field of a layout: what it is called, and how many bytes it has
+pub data Field : Type 0 where
+  field : (name : String) (width : ℕ) → Field
+
+abbrev pub widthsIn : (layout : List Field) → List ℕ
+widthsIn [] = []
+widthsIn (field name width ∷ layout) = width ∷ widthsIn layout
+
+-- where a field begins, by its name, counted from the first field
+abbrev pub startOf : (name : String) (layout : List Field) → ℕ
+startOf name [] = 0
+startOf name (field other width ∷ layout) = cond (eqt name other) 0 (width + startOf name layout)
+
+abbrev pub widthOf : (name : String) (layout : List Field) → ℕ
+widthOf name [] = 0
+widthOf name (field other width ∷ layout) = cond (eqt name other) width (widthOf name layout)
 
 -- how many bytes fields of these widths take
 abbrev pub total : (widths : List ℕ) → ℕ

@@ -26,14 +26,14 @@ TableRule (suc n) (block ∷ blocks) = IsTable block × NoTable blocks
 
 -- the time of a block; a table has none
 abbrev pub timeOf : Block → Option ℕ
-timeOf (Inode number time mode uid gid atime mtime ctime btime size rest) = some time
-timeOf (Link time child parent name) = some time
-timeOf (Unlink time child parent name) = some time
-timeOf (Xattr time number name value) = some time
-timeOf (RemovedXattr time number name) = some time
-timeOf (Data time payload) = some time
-timeOf (Rename time old new) = some time
-timeOf (Table links) = none
+timeOf (Inode b) = some (b .time)
+timeOf (Link b) = some (b .time)
+timeOf (Unlink b) = some (b .time)
+timeOf (Xattr b) = some (b .time)
+timeOf (RemovedXattr b) = some (b .time)
+timeOf (Data b) = some (b .time)
+timeOf (Rename b) = some (b .time)
+timeOf (Table b) = none
 
 -- the time rule: where there is a last time, the next one is greater
 abbrev pub TimeFollows : (last time : Option ℕ) → Type 0

@@ -6,3 +6,4 @@ pub mod Twins
 pub mod Lists
 pub mod Rules
 pub mod Walks
+pub mod Tables

@@ -1,19 +1,19 @@
 -- Links laid out one after the other are read back, and links read are laid out as they stood. Assumes nothing.
 use Prim.Native.Nat.{ℕ, zero, suc, _+_, _-_, _≤_}
 use mathlib.Core.Path.{_≡_, refl, sym, ap, ap₂, subst, _∙_}
-use mathlib.Core.List.{List, [], _∷_, _++_, append-assoc, append-nil}
+use mathlib.Core.List.{List, [], _∷_, _++_, append-assoc}
 use native.Mathlib.Nat.{add-zero, zero-add}
 use native.Mathlib.Omega.{arith}
 use lib.ListN.{length, take, drop, length-append, length-drop}
-use Rattle.number.specs.Number.{Bytes, numberAt, part}
+use Rattle.number.specs.Number.{Bytes, part}
 use Rattle.number.proofs.Digits.{bytes-drop}
 use Rattle.number.proofs.Parts.{length-part, bytes-part, part-add, part-at, drop-past}
 use Rattle.format.specs.Layout.{Fit, laid, All}
 use Rattle.format.specs.Blocks.{TableLink, linkWidths, linkFields, linkImage, linkList}
 use Rattle.format.proofs.Listed.{listed, length-listed, listed-same, all-listed}
 use Rattle.format.proofs.Fields.{valuesIn, length-laid, values-laid, laid-values, fit-values, values-listed}
-use Rattle.links.specs.Links.{nameLengthAt, parentAt, nameAt, linkStart, linkAt, linksFrom}
-use Rattle.links.specs.Sorting.{Fits}
+use Rattle.links.specs.Links.{linkField, nameLengthAt, parentAt, nameAt, linkStart, linkAt, linksFrom}
+use Rattle.links.specs.inner.Sorting.{Fits}
 use Rattle.links.proofs.Starts.{start-zero, start-suc, start-rises, link-within}
 
 -- a link whose values fit their fields, and whose name is bytes
@@ -41,8 +41,8 @@ length-links links count = ap length (links-from-start links count) ∙ length-l
 
 -- the fields of the link at a place
 fields-at : (links : List ℕ) (at : ℕ)
-    → valuesIn linkWidths (drop at links) ≡ numberAt links at 8 ∷ parentAt links at ∷ nameLengthAt links at ∷ []
-fields-at links at = values-listed linkWidths links at ∙ rw (add-zero at)
+    → valuesIn linkWidths (drop at links) ≡ linkField "child" links at ∷ parentAt links at ∷ nameLengthAt links at ∷ []
+fields-at links at = values-listed linkWidths links at
 
 -- A link read is laid out as it stood.
 module _ (links : List ℕ) (bytes : Bytes links) where
@@ -98,7 +98,7 @@ module _ (links : List ℕ) where
     unfolding linkImage
     after-fields = stands ∙ append-assoc (laid linkWidths (linkFields link)) (link .name) rest
 
-    field-values : numberAt links at 8 ∷ parentAt links at ∷ nameLengthAt links at ∷ [] ≡ linkFields link
+    field-values : linkField "child" links at ∷ parentAt links at ∷ nameLengthAt links at ∷ [] ≡ linkFields link
     field-values =
         sym (fields-at links at) ∙ ap (valuesIn linkWidths) after-fields
         ∙ values-laid linkWidths (linkFields link) (link .name ++ rest) fit
@@ -109,7 +109,7 @@ module _ (links : List ℕ) where
     link-there : linkAt links at ≡ link
     link-there =
         let e = field-values in
-        let c : numberAt links at 8 ≡ link .child = cc in
+        let c : linkField "child" links at ≡ link .child = cc in
         let p : parentAt links at ≡ link .parent = cc in
         let l : length (laid linkWidths (linkFields link)) ≡ 18 = length-laid linkWidths (linkFields link) fit in
         let d : drop (at + 18) links ≡ link .name ++ rest
@@ -157,11 +157,3 @@ module _ (list : List TableLink) (rest : List ℕ) (fitting : All Fitting list) 
   pub start-of-list : linkStart (linkList list ++ rest) (length list) ≡ length (linkList list)
   unfolding bytes
   start-of-list = ap (linkStart bytes) (sym (zero-add (length list))) ∙ there .1 ∙ rw (← start-zero bytes) (omega arith)
-
--- links that lie within the bytes are the same in the bytes that they take alone
-pub links-alone : (links : List ℕ) → Bytes links → (count : ℕ) → linkStart links count ≤ length links
-    → linksFrom (take (linkStart links count) links) 0 count ≡ linksFrom links 0 count
-links-alone links b count within =
-    let list : List TableLink = linksFrom links 0 count in
-    let back : linksFrom (linkList list ++ []) 0 (length list) ≡ list = links-of-list list [] (links-fitting links b count within) in
-    rw (append-nil (linkList list), list-of-links links b count within, length-links links count) at back

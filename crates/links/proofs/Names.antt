@@ -6,8 +6,9 @@ use mathlib.Core.List.{List}
 use native.Mathlib.Omega.{arith}
 use Rattle.number.specs.Number.{part}
 use Rattle.checks.proofs.Scan.{any-zero, any-more, any-hit}
-use Rattle.utf8.specs.Length.{isText}
-use Rattle.links.specs.Links.{nameLengthAt, nameAt, linkStart, someNameNotText}
+use Rattle.utf8.specs.inner.Length.{isText}
+use Rattle.links.specs.Links.{nameLengthAt, nameAt, linkStart}
+use Rattle.links.specs.inner.Tests.{someNameNotText}
 
 module _ (links : List ℕ) where
   pub text-zero : someNameNotText links 0 ≡ false

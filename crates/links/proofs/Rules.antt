@@ -8,12 +8,13 @@ use mathlib.Mathlib.Data.Bool.Basic.{dichotomy}
 use borrow.Author.Tests.{not-false}
 use Rattle.checks.proofs.Scan.{never, any-false, any-nowhere, pair-false, pair-nowhere}
 use Rattle.utf8.specs.Grammar.{WellFormed}
-use Rattle.utf8.specs.Length.{isText}
+use Rattle.utf8.specs.inner.Length.{isText}
 use Rattle.utf8.proofs.Longest.{text-iff-well-formed}
 use Rattle.format.specs.Layout.{All}
 use Rattle.format.specs.Blocks.{TableLink, LinkRules, SameLink, Distinct}
 use Rattle.format.proofs.Listed.{listed, all-listed, listed-all, pairs-listed, listed-pairs}
-use Rattle.links.specs.Links.{nameAt, linkStart, linksFrom, someNameNotText, someLinkTwice}
+use Rattle.links.specs.Links.{nameAt, linkStart, linksFrom}
+use Rattle.links.specs.inner.Tests.{someNameNotText, someLinkTwice}
 use Rattle.links.proofs.Keys.{same-link-iff}
 use Rattle.links.proofs.Lists.{Fitting, numbered, links-from-start}
 

@@ -12,7 +12,7 @@ use Rattle.number.specs.Number.{Bytes, numberAt}
 use Rattle.number.proofs.Digits.{numberAt-lt}
 use Rattle.order.proofs.Cases.{cases}
 use Rattle.links.specs.Links.{nameLengthAt, linkStart}
-use Rattle.links.specs.Sorting.{Fits}
+use Rattle.links.specs.inner.Sorting.{Fits}
 
 module _ (links : List ℕ) where
   pub start-zero : 0 ≡ linkStart links 0

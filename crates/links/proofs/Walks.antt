@@ -11,11 +11,11 @@ use borrow.Author.Tests.{lt-ltb, le-leb}
 use Rattle.number.specs.Number.{Bytes}
 use Rattle.order.proofs.Cases.{cases}
 use Rattle.format.specs.Blocks.{TableLink, linkList}
-use Rattle.links.specs.Links.{nameLengthAt, linkStart, linkAt, linksFrom, foundAt, linkFrom, linkAnswer}
-use Rattle.links.specs.Sorting.{Fits}
+use Rattle.links.specs.Links.{nameLengthAt, linkEnd, linkStart, linkAt, linksFrom, foundAt, linkFrom, linkAnswer}
+use Rattle.links.specs.inner.Sorting.{Fits}
 use Rattle.links.specs.Walked.{linkShown, Walked, none-left, handed}
-use Rattle.links.specs.declared.LinkAnswer.the-variants.{Found, Missing}
-use Rattle.links.proofs.Starts.{start-zero, start-suc, start-rises, link-within}
+use Rattle.links.specs.declared.LinkAnswer.the-variants.{Found}
+use Rattle.links.proofs.Starts.{start-zero, start-suc, link-within}
 use Rattle.links.proofs.Answers.{cut-short, not-so-many}
 use Rattle.links.proofs.Lists.{length-links, links-fitting, list-of-links, start-of-list}
 
@@ -23,7 +23,7 @@ module _ (links : List ℕ) where
   -- the link at a place, where it ends within the bytes
   found-there : (at : ℕ) → Fits links at → linkFrom links at ≡ Found (foundAt links at)
   unfolding linkFrom
-  found-there at fits = rw (le-leb (at + (18 + nameLengthAt links at)) (length links) fits)
+  found-there at fits = rw (le-leb (linkEnd links at) (length links) fits)
 
   -- By number.
 

@@ -1,3 +1,3 @@
 pub mod Links
 pub mod Walked
-pub mod Sorting
+pub mod inner

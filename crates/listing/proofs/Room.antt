@@ -3,16 +3,17 @@
 use Prim.Native.Nat.{ℕ, suc, _+_, _-_, _≤_, _<_}
 use mathlib.Core.Path.{_≡_, refl, sym}
 use mathlib.Core.Bool.{Bool, true, false, _&&_, and-eq-true-iff}
-use mathlib.Core.List.{List, [], _∷_}
+use mathlib.Core.List.{List, [], _∷_, _++_}
 use mathlib.Mathlib.Data.Bool.Basic.{or-eq-false-eq-eq-false-and-eq-false}
 use native.Mathlib.Omega.{arith}
 use lib.Dec.{leb, ltb, eqb, lit≤, lit<}
 use lib.ListN.{length, length-append}
 use borrow.Author.Tests.{ltb-true, ltb-false, leb-true, eqb-true, le-leb}
 use Rattle.checks.specs.Checks.{Check, check, firstFault}
-use Rattle.checks.proofs.Laws.{passed}
 use Rattle.format.specs.Blocks.{Kind, inodeBlock, linkBlock, unlinkBlock, xattrBlock, removedXattrBlock, dataBlock, renameBlock, linkTable}
-use Rattle.block.specs.Fields.{idAt, kindAt, before}
+use Rattle.format.specs.Blocks.{FileType, regular, symbolicLink, other}
+use Rattle.block.specs.Fields.{idAt, kindAt, fixedLength, typeAt, sizeAt, restAt}
+use Rattle.block.specs.Order.{restOrder, kindOrder}
 use Rattle.volume.specs.Heading.{sequenceOf, headerOrder, headerFault, firstMark, headerAnswer}
 use Rattle.volume.specs.Reading.{readOrder, readFault, nextMark, readAnswer}
 use Rattle.volume.specs.inner.Walk.{onRead}
@@ -20,6 +21,7 @@ use Rattle.volume.specs.declared.Bookmark.{Bookmark}
 use Rattle.volume.specs.declared.Found.{Found}
 use Rattle.volume.specs.declared.ReadAnswer.{ReadAnswer}
 use Rattle.volume.specs.declared.ReadAnswer.the-variants as ReadAnswer
+use Rattle.volume.proofs.Passed.{read-passed}
 use Rattle.volume.proofs.Whole.{header-length}
 use Rattle.volume.proofs.Steps.{foundAt, Answers, ends, finds, refuses, answers, found-read, sound-further}
 use Rattle.volume.proofs.Walk.{block-after-block, walk-step}
@@ -40,16 +42,38 @@ fault-most most [] e = omega arith
 fault-most most (check true number ∷ checks) e = leb-true number most (and-eq-true-iff (leb number most) (upTo most checks) .0 e .0)
 fault-most most (check false number ∷ checks) e = fault-most most checks (and-eq-true-iff (leb number most) (upTo most checks) .0 e .1)
 
--- every block has its ID and at least one field of eight bytes before the variable parts
-before-least : (kind : Kind) → 9 ≤ before kind
-before-least inodeBlock = lit≤ tt
-before-least linkBlock = lit≤ tt
-before-least unlinkBlock = lit≤ tt
-before-least xattrBlock = lit≤ tt
-before-least removedXattrBlock = lit≤ tt
-before-least dataBlock = lit≤ tt
-before-least renameBlock = lit≤ tt
-before-least linkTable = lit≤ tt
+upTo-append : (most : ℕ) (a b : List Check) → upTo most a ≡ true → upTo most b ≡ true → upTo most (a ++ b) ≡ true
+upTo-append most [] b p q = q
+upTo-append most (check fault number ∷ a) b p q =
+    let e = and-eq-true-iff (leb number most) (upTo most a) .0 p in
+    rw (e .0) (upTo-append most a b (e .1) q)
+
+module _ (volume : List ℕ) (offset : ℕ) where
+  rest-most : (type : FileType) → upTo 14 (restOrder type (sizeAt volume offset) (restAt volume offset)) ≡ true
+  rest-most regular = refl
+  rest-most symbolicLink = refl
+  rest-most other = refl
+
+  kind-most : (kind : Kind) → upTo 14 (kindOrder kind volume offset) ≡ true
+  kind-most inodeBlock = rest-most (typeAt volume offset)
+  kind-most linkBlock = refl
+  kind-most unlinkBlock = refl
+  kind-most xattrBlock = refl
+  kind-most removedXattrBlock = refl
+  kind-most dataBlock = refl
+  kind-most renameBlock = refl
+  kind-most linkTable = refl
+
+-- every block has its ID and at least one field of eight bytes
+fixed-least : (kind : Kind) → 9 ≤ fixedLength kind
+fixed-least inodeBlock = lit≤ tt
+fixed-least linkBlock = lit≤ tt
+fixed-least unlinkBlock = lit≤ tt
+fixed-least xattrBlock = lit≤ tt
+fixed-least removedXattrBlock = lit≤ tt
+fixed-least dataBlock = lit≤ tt
+fixed-least renameBlock = lit≤ tt
+fixed-least linkTable = lit≤ tt
 
 -- the line of a block of 13 bytes or more is not longer than the block
 block-line-short : (offset id len : ℕ) → offset < 100000 → id < 10 → 13 ≤ len → len < 100000 → length (blockLine offset id len) ≤ len
@@ -72,15 +96,16 @@ refused-line-short number offset p q = simp length-append (omega (arith, decimal
 
 -- a block that is accepted has one of the IDs 1 to 8
 sound-id : (volume : List ℕ) (mark : Bookmark) → readFault volume mark ≡ 0 → idAt volume (mark .offset) < 10
-unfolding readFault
 sound-id volume mark f =
     let known = or-eq-false-eq-eq-false-and-eq-false (eqb (idAt volume (mark .offset)) 0) (ltb 8 (idAt volume (mark .offset)))
-    .0 (passed 3 (readOrder volume mark) tt f) in
+    .0 (read-passed volume mark f .block .known) in
     omega (arith, ltb-false 8 (idAt volume (mark .offset)) (known .1))
 
 read-fault-most : (volume : List ℕ) (mark : Bookmark) → readFault volume mark ≤ 14
 unfolding readFault
-read-fault-most volume mark = fault-most 14 (readOrder volume mark) refl
+read-fault-most volume mark =
+    let kind : Kind = kindAt volume (mark .offset) in
+    fault-most 14 (readOrder volume mark) (upTo-append 14 (kindOrder kind volume (mark .offset)) _ (kind-most volume (mark .offset) kind) refl)
 
 -- what the lines from a bookmark on may take: the bytes of the volume that are left, and a last line
 abbrev roomAt : (volume : List ℕ) → Bookmark → ℕ
@@ -101,7 +126,7 @@ module _ (volume : List ℕ) (small : length volume ≤ listLimit) where
   line-short mark blocks h b later (finds p f) =
       let next : ℕ = nextMark volume mark .offset in
       let further = sound-further volume mark f in
-      let least : 13 ≤ next - mark .offset = omega (arith, before-least (kindAt volume (mark .offset))) in
+      let least : 13 ≤ next - mark .offset = omega (arith, fixed-least (kindAt volume (mark .offset))) in
       let line : length (foundLine volume mark (foundAt volume mark)) ≤ next - mark .offset
       = block-line-short _ _ _ (omega arith) (sound-id volume mark f) least (omega arith) in
       let rest = later (foundAt volume mark) (sym (found-read volume mark p f)) (suc blocks) (further .1) (omega arith) in

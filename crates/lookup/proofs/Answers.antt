@@ -22,15 +22,17 @@ use Rattle.runs.specs.declared.Place.the-variants as place
 use Rattle.runs.specs.declared.Counted.{Counted}
 use Rattle.runs.specs.declared.Counted.the-variants as counted
 use Rattle.runs.specs.Positions.{keeper}
-use Rattle.runs.specs.Runs.{runLengths, runCount, rangeNumbers}
-use Rattle.runs.specs.Answers as runs
-use Rattle.runs.specs.Answers.{placeOf, rangeAnswer}
+use Rattle.runs.specs.inner.Computed.{runLengths, runCount, rangeNumbers}
+use Rattle.runs.specs.inner.Answers as runs
+use Rattle.runs.specs.inner.Answers.{placeOf, rangeAnswer}
 use Rattle.runs.proofs.Fill.{numbers-long}
 use Rattle.lookup.specs.declared.PositionAnswer.{PositionAnswer}
 use Rattle.lookup.specs.declared.PositionAnswer.the-variants.{Hole, PastEnd, Stored, Refused}
 use Rattle.lookup.specs.declared.RunsAnswer.{RunsAnswer}
 use Rattle.lookup.specs.declared.RunsAnswer.the-variants.{Runs, Refused as RunsRefused}
-use Rattle.lookup.specs.Lookup.{lookupOrder, lookupFault, placeFor, positionAnswer, runsFault, runsAnswer, runsRoom}
+use Rattle.lookup.specs.Lookup.{lookupOrder, lookupFault, runsFault}
+use Rattle.lookup.specs.inner.Answers.{placeFor, positionAnswer, runsAnswer, runsRoom}
+use Rattle.lookup.proofs.Deciding.{lookup-numbered}
 
 -- what is answered for a place in the list of extents, and for a number of runs
 abbrev pub placed : Place → PositionAnswer
@@ -73,7 +75,7 @@ module _ (volume : List ℕ) (offset : ℕ) (lengths : List ℕ) {fault : ℕ} (
 
     fault-stays : (from to room : ℕ) → fault ≡ runsFault volume offset lengths from to room
     unfolding lookupFault runsFault
-    fault-stays from to room = stopped (lookupOrder volume offset lengths) _ tt told n
+    fault-stays from to room = stopped (lookupOrder volume offset lengths) _ (lookup-numbered volume offset lengths) told n
 
     pub runs-refused : (from to room : ℕ) → RunsRefused (refusalOf fault) ≡ runsAnswer volume offset lengths from to room
     unfolding runsAnswer
@@ -99,7 +101,8 @@ module _ (volume : List ℕ) (offset : ℕ) (lengths : List ℕ) {fault : ℕ} (
     room-decides : (from to room : ℕ) → cond (ltb room (5 * countOf volume offset from to)) 17 0 ≡ runsFault volume offset lengths from to room
     unfolding lookupFault runsFault firstFault
     room-decides from to room =
-        continued (lookupOrder volume offset lengths) (check (ltb room (5 * countOf volume offset from to)) 17 ∷ []) tt told z refl
+        continued (lookupOrder volume offset lengths) (check (ltb room (5 * countOf volume offset from to)) 17 ∷ [])
+        (lookup-numbered volume offset lengths) told z refl
 
     -- the list and the size as they were read
     module _ {list : List ℕ} {size : ℕ} (l : list ≡ restAt volume offset) (s : size ≡ sizeAt volume offset) (from to : ℕ) where

@@ -1,26 +1,29 @@
 -- What a lookup that is not refused knows: the block is the inode of a regular file, its extents keep their rules, and what
 -- they name is there. Assumes nothing.
 use Prim.Native.Nat.{ℕ, _+_, _%_, _≤_, _<_}
-use mathlib.Core.Path.{_≡_, refl}
+use mathlib.Core.Path.{_≡_, refl, subst}
 use mathlib.Core.Bool.{true, false, false≢true, not}
 use mathlib.Mathlib.Data.Bool.Basic.{or-eq-false-eq-eq-false-and-eq-false as both-false}
 use mathlib.Core.List.{List}
 use native.Mathlib.Omega.{arith}
 use lib.Dec.{leb, eqb}
-use lib.ListN.{length, length-take}
+use lib.ListN.{length}
 use borrow.Author.Tests.{lt-ltb, ltb-false, leb-false, eqb-true, not-false}
+use Rattle.number.proofs.Parts.{length-part}
 use Rattle.checks.specs.Checks.{firstFault}
-use Rattle.checks.proofs.Laws.{passed, passed-part}
+use Rattle.checks.proofs.Laws.{passed}
+use Rattle.checks.proofs.Cleared.{rest-clear, both-clear}
 use Rattle.checks.proofs.Scan.{any-false}
 use Rattle.format.specs.declared.Extent.{Extent}
 use Rattle.format.specs.Extents.{keptLength, footprint}
 use Rattle.format.specs.Blocks.{Kind, inodeBlock, linkBlock, unlinkBlock, xattrBlock, removedXattrBlock, dataBlock, renameBlock, linkTable, FileType, regular, symbolicLink, other}
-use Rattle.extent.specs.Extents.{extentAt, extentCount, someBroken, someOverlap}
-use Rattle.block.specs.Fields.{kindAt, typeAt, restAt, bodyLength, bodyEnd}
-use Rattle.block.specs.Order.{overCount, ruleBroken, rangesOverlap, kindOrder, blockOrder}
-use Rattle.block.proofs.Passed.{BlockPassed, block-passed}
-use Rattle.block.proofs.Places.{block-within}
-use Rattle.lookup.specs.Lookup.{entryCount, lengthOf, lengthsWrong, isFile, notFile, isAbsent, someAbsent, openOrder, lookupOrder, lookupFault}
+use Rattle.extent.specs.Extents.{extentAt, extentCount}
+use Rattle.extent.specs.inner.Tests.{someBroken, someOverlap}
+use Rattle.block.specs.Fields.{kindAt, fixedLength, fieldAt, typeAt, sizeAt, restAt, bodyLength, bodyEnd}
+use Rattle.block.specs.Order.{kindOrder, blockOrder}
+use Rattle.block.proofs.Passed.{ListPassed, RestPassed, kind-passed, BlockPassed, block-numbered, block-passed}
+use Rattle.lookup.specs.Lookup.{entryCount, lengthOf, lengthsWrong, isFile, notFile, isAbsent, someAbsent, openOrder, lookupFault}
+use Rattle.lookup.proofs.Deciding.{open-numbered}
 
 -- a sound block that is the inode of a regular file
 pub record RegularFile (volume : List ℕ) (offset : ℕ) : Type 0 where
@@ -61,24 +64,28 @@ is-file linkTable type e = absurd (false≢true e)
 -- the checks of the block and of its kind and file type tell all of that
 regular-file : (volume : List ℕ) (offset : ℕ) → firstFault (blockOrder volume offset false) ≡ 0 → notFile volume offset ≡ false
     → RegularFile volume offset
-unfolding notFile overCount ruleBroken rangesOverlap
+unfolding notFile bodyLength
 regular-file volume offset e n =
     let f = is-file (kindAt volume offset) (typeAt volume offset) (not-false _ n) in
     let p = block-passed volume offset false e in
     let c : firstFault (kindOrder inodeBlock volume offset) ≡ 0 = rw (f .0) at (p .own) in
-    let rule = both-false (not (eqb (bodyLength inodeBlock volume offset % 57) 0)) _ .0 (rw (f .1) at (passed 5 (kindOrder inodeBlock volume offset) tt c)) in
-    let n : bodyLength inodeBlock volume offset ≤ 58368
-    = ltb-false _ _ (rw (f .1) at (passed 1 (kindOrder inodeBlock volume offset) tt c)) in
+    let k = kind-passed volume offset inodeBlock c in
+    let few : fieldAt inodeBlock "n" volume offset ≤ 58368 = ltb-false _ _ (rw (f .1) at (k .own .few)) in
+    let list : ListPassed (restAt volume offset)
+    = subst (λ type. RestPassed type (sizeAt volume offset) (restAt volume offset)) (f .1) (k .own .sound) in
+    let whole : bodyEnd inodeBlock volume offset + 4 ≤ length volume = k .whole in
+    let long : length (restAt volume offset) ≡ bodyLength inodeBlock volume offset
+    = length-part volume (offset + fixedLength inodeBlock) (bodyLength inodeBlock volume offset) (omega arith) in
     record {
       block = p;
       kind = f .0;
       type = f .1;
       own = c;
-      whole = block-within inodeBlock volume offset (f .0) (p .own);
-      entire = eqb-true _ _ (not-false _ (rule .0));
-      sound = rule .1;
-      apart = rw (f .1) at (passed 6 (kindOrder inodeBlock volume offset) tt c);
-      few = simp length-take (omega arith);
+      whole = whole;
+      entire = rw long at (list .whole);
+      sound = list .sound;
+      apart = list .apart;
+      few = rw long few;
     }
 
 -- Only here and above are the checks of the opening, of a lookup and of an inode counted.
@@ -86,20 +93,19 @@ pub opened : (volume : List ℕ) (offset : ℕ) (lengths : List ℕ) → firstFa
     → Opened volume offset lengths
 opened volume offset lengths e =
     let order = openOrder volume offset lengths in
+    let numbered = open-numbered volume offset lengths in
+    let parts = both-clear (blockOrder volume offset false) _ (block-numbered volume offset false) (rest-clear 1 order numbered e) in
     record {
-      lengths-right = passed 0 order tt e;
-      file = regular-file volume offset (passed-part 1 13 order tt e) (passed 14 order tt e);
+      lengths-right = passed 0 order numbered e;
+      file = regular-file volume offset (parts .0) (passed 0 _ tt (parts .1));
     }
 
 pub a-lookup-without-a-fault-is-clear : (volume : List ℕ) (offset : ℕ) (lengths : List ℕ) → lookupFault volume offset lengths ≡ 0
     → Clear volume offset lengths
 unfolding lookupFault
 a-lookup-without-a-fault-is-clear volume offset lengths e =
-    let order = lookupOrder volume offset lengths in
-    record {
-      opening = opened volume offset lengths (passed-part 0 15 order tt e);
-      none-absent = passed 15 order tt e;
-    }
+    let parts = both-clear (openOrder volume offset lengths) _ (open-numbered volume offset lengths) e in
+    record { opening = opened volume offset lengths (parts .0); none-absent = passed 0 _ tt (parts .1) }
 
 -- no extent of a list is absent
 pub each-present : (lengths list : List ℕ) → someAbsent lengths list ≡ false

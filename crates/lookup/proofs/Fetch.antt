@@ -13,7 +13,8 @@ use Rattle.number.specs.Address.{Address, addressIn}
 use Rattle.checks.specs.Checks.{Check, check, firstFault}
 use Rattle.checks.proofs.Laws.{passed, passed-part, firstFault-append}
 use Rattle.volume.specs.Heading.{sequenceOf, headerOrder, headerFault}
-use Rattle.lookup.specs.Fetch.{whichever, chosen, outOf, fetchOrder, fetchFault, fetchPart, fetchAddress}
+use Rattle.lookup.specs.Fetch.{whichever, chosen, outOf, fetchOrder, fetchFault}
+use Rattle.lookup.specs.inner.Part.{fetchPart, fetchAddress}
 
 -- the first header decides before the second, and the second before the rest
 pub by-headers : (first second : List ℕ) (others : List Check)

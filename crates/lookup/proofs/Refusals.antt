@@ -9,7 +9,8 @@ use borrow.Author.Tests.{eqb-false}
 use Rattle.refusal.specs.Refusal.{refusalOf}
 use Rattle.block.specs.Fields.{sizeAt, restAt}
 use Rattle.runs.specs.Positions.{keeper}
-use Rattle.lookup.specs.Lookup.{lookupFault, placeFor, positionAnswer}
+use Rattle.lookup.specs.Lookup.{lookupFault}
+use Rattle.lookup.specs.inner.Answers.{placeFor, positionAnswer}
 use Rattle.lookup.specs.declared.PositionAnswer.{PositionAnswer}
 use Rattle.lookup.specs.declared.PositionAnswer.the-variants.{Hole, PastEnd, Stored, Refused}
 

@@ -6,7 +6,6 @@ use mathlib.Core.List.{List, [], _∷_, _++_}
 use lib.Dec.{ltb, eqb}
 use lib.ListN.{length}
 use Rattle.number.specs.Number.{part}
-use Rattle.number.specs.Address.{Address, addressIn}
 use Rattle.checks.specs.Checks.{Check, check, firstFault}
 use Rattle.volume.specs.Heading.{sequenceOf, headerOrder}
 
@@ -33,19 +32,3 @@ fetchOrder first second number offset len =
 -- 0, or the refusal's number
 unfoldable pub fetchFault : (first second : List ℕ) (number offset len : ℕ) → ℕ
 fetchFault first second number offset len = firstFault (fetchOrder first second number offset len)
-
-abbrev pub partOf : (offset len : ℕ) → Option (List ℕ) → List ℕ
-partOf offset len none = []
-partOf offset len (some volume) = part volume offset len
-
--- the part; empty on refusal
-unfoldable pub fetchPart : (first second : List ℕ) (number offset len : ℕ) → List ℕ
-fetchPart first second number offset len =
-    cond (eqb (fetchFault first second number offset len) 0) (partOf offset len (chosen first second number)) []
-
--- and where it begins, by where the two volumes do; on refusal at the beginning of the first
-unfoldable pub fetchAddress : (first second : List ℕ) (firstAt secondAt : Address) (number offset len : ℕ) → Address
-fetchAddress first second firstAt secondAt number offset len =
-    cond (eqb (fetchFault first second number offset len) 0)
-    (addressIn (whichever first second number firstAt secondAt firstAt) offset)
-    (addressIn firstAt 0)

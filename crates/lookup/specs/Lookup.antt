@@ -1,26 +1,19 @@
 -- What a position lookup and a range query answer.
 use Prim.Native.Nat.{ℕ, _+_, _*_, _/_, _%_}
-use mathlib.Core.Bool.{Bool, true, false, not, cond, _&&_, _||_}
-use mathlib.Core.Option.{Option, none, some}
+use mathlib.Core.Bool.{Bool, true, false, not, _&&_, _||_}
 use mathlib.Core.List.{List, [], _∷_, _++_}
 use lib.Dec.{leb, ltb, eqb}
 use lib.ListN.{length}
-use Rattle.number.specs.Number.{numberAt, put}
+use Rattle.number.specs.Number.{numberAt}
 use Rattle.checks.specs.Checks.{Check, check, firstFault}
 use Rattle.checks.specs.Scan.{anyBelow}
-use Rattle.refusal.specs.Refusal.{refusalOf}
 use Rattle.format.specs.declared.Extent.{Extent}
 use Rattle.format.specs.Extents.{keptLength, footprint}
-use Rattle.format.specs.Blocks.{Kind, inodeBlock, linkBlock, unlinkBlock, xattrBlock, removedXattrBlock, dataBlock, renameBlock, linkTable, FileType, regular, symbolicLink, other}
+use Rattle.format.specs.Blocks.{Kind, inodeBlock, idOf, FileType, regular, symbolicLink, other}
 use Rattle.extent.specs.Extents.{extentAt, extentCount}
 use Rattle.block.specs.Fields.{kindAt, typeAt, sizeAt, restAt}
 use Rattle.block.specs.Order.{blockOrder}
-use Rattle.runs.specs.Positions.{storedAt, keeper}
-use Rattle.runs.specs.Runs.{runCount, rangeNumbers}
-use Rattle.lookup.specs.declared.PositionAnswer.{PositionAnswer}
-use Rattle.lookup.specs.declared.PositionAnswer.the-variants.{Hole, PastEnd, Stored, Refused}
-use Rattle.lookup.specs.declared.RunsAnswer.{RunsAnswer}
-use Rattle.lookup.specs.declared.RunsAnswer.the-variants.{Runs, Refused as RunsRefused}
+use Rattle.runs.specs.inner.Computed.{runCount}
 
 -- the lengths of the volumes: 8 bytes each, entry i for sequence number i
 abbrev pub entryCount : (lengths : List ℕ) → ℕ
@@ -40,14 +33,7 @@ isRegular other = false
 
 -- whether a block of this kind and file type is a regular file's inode
 abbrev pub isFile : Kind → FileType → Bool
-isFile inodeBlock type = isRegular type
-isFile linkBlock type = false
-isFile unlinkBlock type = false
-isFile xattrBlock type = false
-isFile removedXattrBlock type = false
-isFile dataBlock type = false
-isFile renameBlock type = false
-isFile linkTable type = false
+isFile kind type = eqb (idOf kind) (idOf inodeBlock) && isRegular type
 
 -- 15: the block isn't a regular file's inode
 unfoldable pub notFile : (volume : List ℕ) (offset : ℕ) → Bool
@@ -86,18 +72,6 @@ lookupOrder volume offset lengths = openOrder volume offset lengths ++ extentsOr
 unfoldable pub lookupFault : (volume : List ℕ) (offset : ℕ) (lengths : List ℕ) → ℕ
 lookupFault volume offset lengths = firstFault (lookupOrder volume offset lengths)
 
--- where a position below the size is stored, or that it is a hole
-abbrev pub placeFor : (list : List ℕ) (position : ℕ) → Option ℕ → PositionAnswer
-placeFor list position none = Hole
-placeFor list position (some i) =
-    Stored (record { volume = extentAt list i .volume; offset = record { 0 = storedAt (extentAt list i) position } })
-
-unfoldable pub positionAnswer : (volume : List ℕ) (offset : ℕ) (lengths : List ℕ) (position : ℕ) → PositionAnswer
-positionAnswer volume offset lengths position =
-    cond (eqb (lookupFault volume offset lengths) 0)
-    (cond (ltb position (sizeAt volume offset)) (placeFor (restAt volume offset) position (keeper (restAt volume offset) position)) PastEnd)
-    (Refused (refusalOf (lookupFault volume offset lengths)))
-
 -- the checks of a range query: those of a lookup, then 17
 abbrev pub runsOrder : (volume : List ℕ) (offset : ℕ) (lengths : List ℕ) (from to room : ℕ) → List Check
 runsOrder volume offset lengths from to room =
@@ -106,16 +80,3 @@ runsOrder volume offset lengths from to room =
 
 unfoldable pub runsFault : (volume : List ℕ) (offset : ℕ) (lengths : List ℕ) (from to room : ℕ) → ℕ
 runsFault volume offset lengths from to room = firstFault (runsOrder volume offset lengths from to room)
-
-unfoldable pub runsAnswer : (volume : List ℕ) (offset : ℕ) (lengths : List ℕ) (from to room : ℕ) → RunsAnswer
-runsAnswer volume offset lengths from to room =
-    cond (eqb (runsFault volume offset lengths from to room) 0)
-    (Runs (runCount (restAt volume offset) (sizeAt volume offset) from to))
-    (RunsRefused (refusalOf (runsFault volume offset lengths from to room)))
-
--- what the lent list then holds: five numbers for each run, and past them what it held before; on refusal all of that
-unfoldable pub runsRoom : (volume : List ℕ) (offset : ℕ) (lengths : List ℕ) (from to : ℕ) (out : List ℕ) → List ℕ
-runsRoom volume offset lengths from to out =
-    cond (eqb (runsFault volume offset lengths from to (length out)) 0)
-    (put out 0 (rangeNumbers (restAt volume offset) (sizeAt volume offset) from to))
-    out

@@ -7,7 +7,8 @@ ghost use lib.Dec.{ltb};
 ghost use lib.ListN.{length};
 ghost use Rattle.number.specs.Number.{part};
 ghost use Rattle.number.specs.Address.{addressIn};
-ghost use Rattle.lookup.specs.Fetch.{outOf, chosen, fetchFault, fetchPart, fetchAddress};
+ghost use Rattle.lookup.specs.Fetch.{outOf, chosen, fetchFault};
+ghost use Rattle.lookup.specs.inner.Part.{fetchPart, fetchAddress};
 
 // Whether `len` bytes from `offset` on reach beyond `end`. The rest is compared and nothing is added: the sum may not fit.
 fn reaches_beyond(end: usize, offset: Physical, len: u64) -> bool

@@ -8,7 +8,7 @@ ghost use mathlib.Core.Bool.{true, false};
 ghost use Prim.Native.Nat.{_≤_};
 ghost use lib.ListN.{length};
 ghost use Rattle.format.specs.Extents.{keptLength};
-ghost use Rattle.extent.specs.Extents.{isSound, someBroken};
+ghost use Rattle.extent.specs.inner.Tests.{isSound, someBroken};
 ghost use Rattle.lookup.specs.Lookup.{isAbsent, someAbsent, isStray, someStray};
 
 // How many bytes an extent takes in a list.

@@ -12,7 +12,7 @@ use runs::Place;
 ghost use mathlib.Core.Path.{_≡_};
 ghost use lib.Dec.{leb};
 ghost use lib.ListN.{length};
-ghost use Rattle.lookup.specs.Lookup.{positionAnswer, runsAnswer, runsRoom};
+ghost use Rattle.lookup.specs.inner.Answers.{positionAnswer, runsAnswer, runsRoom};
 
 // Whether a position lies at the end of a file or beyond it. The size of a file is the position at which it ends.
 fn is_past_end(position: Logical, size: Logical) -> bool

@@ -1,4 +1,4 @@
 pub mod Number
-pub mod Same
 pub mod Address
 pub mod Ascii
+pub mod inner

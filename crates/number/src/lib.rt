@@ -7,7 +7,7 @@ ghost use mathlib.Core.Path.{_≡_};
 ghost use Prim.Native.Nat.{_+_, _-_, _^_, _≤_, _<_};
 ghost use lib.ListN.{length, drop};
 ghost use Rattle.number.specs.Number.{le, leBytes, numberAt, put};
-ghost use Rattle.number.specs.Same.{sameBytes};
+ghost use Rattle.number.specs.inner.Same.{sameBytes};
 
 // The number of one byte at `at`.
 pub fn read_u8(bytes: &[u8], at: usize) -> u8

@@ -1,3 +1,2 @@
-pub mod Asked
-pub mod Orders
-pub mod Sizes
+pub mod Rules
+pub mod OneBlock

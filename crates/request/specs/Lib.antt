@@ -1,3 +1,3 @@
 pub mod Requests
 pub mod Asking
-pub mod Parts
+pub mod inner

@@ -1,6 +1,6 @@
-// What an append is asked to write, checked by itself: lengths, link bytes, texts, the rules of an inode and of a table.
+// The block that an append is asked for, checked by itself: lengths, link bytes, texts, the rules of an inode and of a table.
 //
-// There is no bookmark and no buffer here. Each call is handed a request whole, also the numbers that have no check, so that
+// There is no bookmark and no buffer here. Each call is handed a block whole, also the numbers that have no check, so that
 // its contract can say two things of it: the answer is its first fault, or 0; and it is sized, whether it is refused or not,
 // which the types of the arguments give. Crate `volume` makes the call between the checks of the place and those of time and
 // room. A data block has no call here, since a payload has no checks.
@@ -11,9 +11,10 @@ use refusal::OVER_LIMIT;
 use refusal::RULE_BROKEN;
 ghost use mathlib.Core.Path.{_≡_};
 ghost use Rattle.checks.specs.Checks.{firstFault};
-ghost use Rattle.request.specs.Requests.{Inode, Link, Unlink, Xattr, RemovedXattr, Rename, Table, requestOrder};
+ghost use Rattle.format.specs.Blocks.{Inode, Link, Unlink, Xattr, RemovedXattr, Rename, Table};
+ghost use Rattle.request.specs.Requests.{requestOrder};
 ghost use Rattle.request.specs.Asking.{Sized};
-ghost use Rattle.request.specs.Parts.{nameOrder};
+ghost use Rattle.request.specs.inner.Parts.{nameOrder};
 
 // The most bytes of the name of an xattr: its length field is one byte wide.
 const XATTR_NAME_MOST: usize = 255;
@@ -36,16 +37,16 @@ fn name_fault(name: &[u8], most: usize) -> u64
 
 // Internal: the first fault of a link, or 0.
 pub fn link_fault(time: u64, child: u64, parent: u64, name: &[u8]) -> u64
-    ensures fault { λ r. ⌜ r ≡ firstFault (requestOrder (Link time child parent (now (name .entry)))) ⌝ }
-    ensures sized { λ _. ⌜ Sized (Link time child parent (now (name .entry))) ⌝ }
+    ensures fault { λ r. ⌜ r ≡ firstFault (requestOrder (Link (record { time = time; child = child; parent = parent; name = now (name .entry) }))) ⌝ }
+    ensures sized { λ _. ⌜ Sized (Link (record { time = time; child = child; parent = parent; name = now (name .entry) })) ⌝ }
 {
     name_fault(name, LONG_MOST)
 }
 
 // Internal: the first fault of an unlink, or 0.
 pub fn unlink_fault(time: u64, child: u64, parent: u64, name: &[u8]) -> u64
-    ensures fault { λ r. ⌜ r ≡ firstFault (requestOrder (Unlink time child parent (now (name .entry)))) ⌝ }
-    ensures sized { λ _. ⌜ Sized (Unlink time child parent (now (name .entry))) ⌝ }
+    ensures fault { λ r. ⌜ r ≡ firstFault (requestOrder (Unlink (record { time = time; child = child; parent = parent; name = now (name .entry) }))) ⌝ }
+    ensures sized { λ _. ⌜ Sized (Unlink (record { time = time; child = child; parent = parent; name = now (name .entry) })) ⌝ }
 {
     name_fault(name, LONG_MOST)
 }
@@ -53,8 +54,8 @@ pub fn unlink_fault(time: u64, child: u64, parent: u64, name: &[u8]) -> u64
 // Internal: the first fault of an xattr, or 0. The value is raw bytes. Both lengths are refused by the same number, so either
 // may be tested first.
 pub fn xattr_fault(time: u64, inode: u64, name: &[u8], value: &[u8]) -> u64
-    ensures fault { λ r. ⌜ r ≡ firstFault (requestOrder (Xattr time inode (now (name .entry)) (now (value .entry)))) ⌝ }
-    ensures sized { λ _. ⌜ Sized (Xattr time inode (now (name .entry)) (now (value .entry))) ⌝ }
+    ensures fault { λ r. ⌜ r ≡ firstFault (requestOrder (Xattr (record { time = time; inode = inode; name = now (name .entry); value = now (value .entry) }))) ⌝ }
+    ensures sized { λ _. ⌜ Sized (Xattr (record { time = time; inode = inode; name = now (name .entry); value = now (value .entry) })) ⌝ }
 {
     if LONG_MOST < value.len() {
         return OVER_LIMIT;
@@ -64,16 +65,16 @@ pub fn xattr_fault(time: u64, inode: u64, name: &[u8], value: &[u8]) -> u64
 
 // Internal: the first fault of a removed xattr, or 0.
 pub fn removed_xattr_fault(time: u64, inode: u64, name: &[u8]) -> u64
-    ensures fault { λ r. ⌜ r ≡ firstFault (requestOrder (RemovedXattr time inode (now (name .entry)))) ⌝ }
-    ensures sized { λ _. ⌜ Sized (RemovedXattr time inode (now (name .entry))) ⌝ }
+    ensures fault { λ r. ⌜ r ≡ firstFault (requestOrder (RemovedXattr (record { time = time; inode = inode; name = now (name .entry) }))) ⌝ }
+    ensures sized { λ _. ⌜ Sized (RemovedXattr (record { time = time; inode = inode; name = now (name .entry) })) ⌝ }
 {
     name_fault(name, XATTR_NAME_MOST)
 }
 
 // Internal: the first fault of a rename, or 0. The lengths of both paths come before either text.
 pub fn rename_fault(time: u64, old: &[u8], new: &[u8]) -> u64
-    ensures fault { λ r. ⌜ r ≡ firstFault (requestOrder (Rename time (now (old .entry)) (now (new .entry)))) ⌝ }
-    ensures sized { λ _. ⌜ Sized (Rename time (now (old .entry)) (now (new .entry))) ⌝ }
+    ensures fault { λ r. ⌜ r ≡ firstFault (requestOrder (Rename (record { time = time; old = now (old .entry); new = now (new .entry) }))) ⌝ }
+    ensures sized { λ _. ⌜ Sized (Rename (record { time = time; old = now (old .entry); new = now (new .entry) })) ⌝ }
 {
     if LONG_MOST < old.len() {
         return OVER_LIMIT;
@@ -105,9 +106,32 @@ pub fn inode_fault(
     size: u64,
     rest: &[u8],
 ) -> u64
-    ensures fault { λ r. ⌜ r ≡ firstFault (requestOrder
-        (Inode inode time mode uid gid atime mtime ctime btime size (now (rest .entry)))) ⌝ }
-    ensures sized { λ _. ⌜ Sized (Inode inode time mode uid gid atime mtime ctime btime size (now (rest .entry))) ⌝ }
+    ensures fault { λ r. ⌜ r ≡ firstFault (requestOrder (Inode (record {
+      inode = inode;
+      time = time;
+      mode = mode;
+      uid = uid;
+      gid = gid;
+      atime = atime;
+      mtime = mtime;
+      ctime = ctime;
+      btime = btime;
+      size = size;
+      rest = now (rest .entry);
+    }))) ⌝ }
+    ensures sized { λ _. ⌜ Sized (Inode (record {
+      inode = inode;
+      time = time;
+      mode = mode;
+      uid = uid;
+      gid = gid;
+      atime = atime;
+      mtime = mtime;
+      ctime = ctime;
+      btime = btime;
+      size = size;
+      rest = now (rest .entry);
+    })) ⌝ }
 {
     if block::inode::is_too_long(mode, rest.len() as u64) {
         return OVER_LIMIT;
@@ -117,8 +141,8 @@ pub fn inode_fault(
 
 // Internal: the first fault of a table, or 0. The names are looked at only in bytes that are exactly the stated links.
 pub fn table_fault(count: u64, links: &[u8]) -> u64
-    ensures fault { λ r. ⌜ r ≡ firstFault (requestOrder (Table count (now (links .entry)))) ⌝ }
-    ensures sized { λ _. ⌜ Sized (Table count (now (links .entry))) ⌝ }
+    ensures fault { λ r. ⌜ r ≡ firstFault (requestOrder (Table (record { count = count; links = now (links .entry) }))) ⌝ }
+    ensures sized { λ _. ⌜ Sized (Table (record { count = count; links = now (links .entry) })) ⌝ }
 {
     if MAX_LINKS < count {
         return OVER_LIMIT;

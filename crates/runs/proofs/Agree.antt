@@ -3,7 +3,7 @@ use Prim.Native.Nat.{ℕ, _+_, _*_, _/_, _%_, _≤_, _<_, min}
 use mathlib.Core.Path.{_≡_, refl, sym, ap, _∙_}
 use mathlib.Core.Bool.{Bool, true, false, cond}
 use mathlib.Core.Option.{none, some}
-use mathlib.Core.List.{List}
+use mathlib.Core.List.{List, [], _∷_}
 use native.Mathlib.Nat.{div-add-mod'}
 use native.Mathlib.Omega.{arith}
 use lib.Dec.{eqb}
@@ -11,14 +11,28 @@ use Rattle.checks.proofs.First.{option-cases}
 use Rattle.format.specs.declared.Extent.{Extent}
 use Rattle.extent.specs.Extents.{extentAt}
 use Rattle.runs.specs.declared.Place.the-variants.{Hole, Stored}
-use Rattle.runs.specs.Positions.{rawByte, storedAt, copyOf, keeper}
-use Rattle.runs.specs.Runs.{label, IsRuns, done, run, runNumbers, rangeNumbers}
-use Rattle.runs.specs.Answers.{placeOf}
-use Rattle.runs.specs.Agree.{Agrees, over, holeFirst, storedFirst}
+use Rattle.runs.specs.Positions.{rawByte, copyOf, keeper}
+use Rattle.runs.specs.inner.Stored.{storedAt}
+use Rattle.runs.specs.Runs.{label, IsRuns, done, run}
+use Rattle.runs.specs.inner.Computed.{runNumbers, rangeNumbers}
+use Rattle.runs.specs.inner.Answers.{placeOf}
 use Rattle.runs.proofs.Stored.{keeps-position}
 use Rattle.runs.proofs.Keeper.{keeper-some, place-hole, place-is}
 use Rattle.runs.proofs.Labels.{label-none, label-some, none-label, some-label}
 use Rattle.runs.proofs.Meaning.{runs-are-runs}
+
+-- the numbers of runs that lie end to end from `from` to `to`, each of which says of its positions what a lookup answers
+pub data Agrees (list : List ℕ) : (from to : ℕ) (numbers : List ℕ) → Type 0 where
+  -- nothing is left
+  over : {from to : ℕ} → to ≤ from → Agrees list from to []
+  -- a hole, kind 0 and two zeros, and then the others
+  holeFirst : {from to len : ℕ} {numbers : List ℕ} → 0 < len → from + len ≤ to
+      → ((k : ℕ) → k < len → placeOf list (from + k) ≡ Hole)
+      → Agrees list (from + len) to numbers → Agrees list from to (from ∷ len ∷ 0 ∷ 0 ∷ 0 ∷ numbers)
+  -- stored bytes, kind 1, the volume and offsets in a row, and then the others
+  storedFirst : {from to len volume offset : ℕ} {numbers : List ℕ} → 0 < len → from + len ≤ to
+      → ((k : ℕ) → k < len → placeOf list (from + k) ≡ Stored volume (record { 0 = offset + k }))
+      → Agrees list (from + len) to numbers → Agrees list from to (from ∷ len ∷ 1 ∷ volume ∷ offset ∷ numbers)
 
 -- within one copy of a block, offsets go up with positions
 module _ (e : Extent) (position k : ℕ) (low : e .logical .0 ≤ position) where

@@ -11,8 +11,8 @@ use Rattle.number.specs.Number.{put}
 use Rattle.number.proofs.Put.{put-fits, put-nothing, put-next, length-put}
 use Rattle.runs.specs.declared.Run.{Run}
 use Rattle.runs.specs.Positions.{keeper}
-use Rattle.runs.specs.Runs.{runLengths, fiveFor, runNumbers}
-use Rattle.runs.specs.Steps.{FirstRun, numbersOf, numbersFrom}
+use Rattle.runs.specs.inner.Computed.{runLengths, fiveFor, runNumbers}
+use Rattle.runs.specs.inner.Steps.{FirstRun, numbersOf, numbersFrom}
 use Rattle.runs.proofs.Meaning.{no-run}
 
 -- numbers stored one by one

@@ -10,14 +10,16 @@ use borrow.Author.Tests.{le-leb}
 use Rattle.checks.proofs.Scan.{never, pair-false}
 use Rattle.checks.proofs.First.{option-cases, first-some, first-none, first-nowhere}
 use Rattle.format.specs.declared.Physical.{Physical}
-use Rattle.extent.specs.Extents.{extentAt, extentCount, shareRange, someOverlap}
-use Rattle.extent.specs.Ranges.{rangeStart, rangeEnd}
+use Rattle.extent.specs.Extents.{extentAt, extentCount}
+use Rattle.extent.specs.inner.Tests.{shareRange, someOverlap}
+use Rattle.extent.specs.inner.Ranges.{rangeStart, rangeEnd}
 use Rattle.extent.proofs.Share.{position-share}
 use Rattle.extent.proofs.Ranges.{range-kept}
 use Rattle.order.proofs.Cases.{cases}
 use Rattle.runs.specs.declared.Place.the-variants.{Hole, Stored}
-use Rattle.runs.specs.Positions.{keeps, storedAt, keeper}
-use Rattle.runs.specs.Answers.{placeOf}
+use Rattle.runs.specs.Positions.{keeps, keeper}
+use Rattle.runs.specs.inner.Stored.{storedAt}
+use Rattle.runs.specs.inner.Answers.{placeOf}
 use Rattle.runs.proofs.Stored.{keeps-position, position-keeps, not-kept}
 
 -- an extent keeps the positions of its range

@@ -12,7 +12,8 @@ use lib.ListN.{length}
 use borrow.Author.Tests.{eqb-true, eq-eqb}
 use Rattle.checks.proofs.Scan.{never}
 use Rattle.order.proofs.Cases.{cases}
-use Rattle.runs.specs.Runs.{Label, hole, stored, label, sameLabel, joins, runsOf, runLengths, IsRuns, done, run}
+use Rattle.runs.specs.Runs.{Label, hole, stored, label, IsRuns, done, run}
+use Rattle.runs.specs.inner.Computed.{sameLabel, joins, runsOf, runLengths}
 
 -- `sameLabel` tests whether two labels are the same
 same-refl : (x : Label) → sameLabel x x ≡ true

@@ -8,9 +8,9 @@ use borrow.Author.Tests.{le-leb, lt-leb}
 use Rattle.number.specs.Number.{put}
 use Rattle.number.proofs.Put.{put-past}
 use Rattle.runs.specs.declared.Counted.the-variants.{Runs, RoomTooSmall}
-use Rattle.runs.specs.Runs.{runLengths, runCount, rangeNumbers}
-use Rattle.runs.specs.Answers.{rangeAnswer}
-use Rattle.runs.specs.Steps.{numbersFrom}
+use Rattle.runs.specs.inner.Computed.{runLengths, runCount, rangeNumbers}
+use Rattle.runs.specs.inner.Answers.{rangeAnswer}
+use Rattle.runs.specs.inner.Steps.{numbersFrom}
 use Rattle.runs.proofs.Fill.{numbers-long}
 
 -- a range that ends at `end` once it is clipped, and how many of its runs were counted

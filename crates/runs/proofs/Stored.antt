@@ -10,9 +10,10 @@ use lib.Dec.{leb, eqb}
 use borrow.Author.Tests.{leb-true, ltb-true, le-leb, lt-ltb}
 use Rattle.format.specs.declared.Extent.{Extent}
 use Rattle.format.specs.Extents.{rawLength, footprint, KeepsPosition}
-use Rattle.extent.specs.Extents.{isSound}
+use Rattle.extent.specs.inner.Tests.{isSound}
 use Rattle.extent.proofs.Sound.{sound-bounded}
-use Rattle.runs.specs.Positions.{keeps, rawByte, storedAt, copyOf}
+use Rattle.runs.specs.Positions.{keeps, rawByte, copyOf}
+use Rattle.runs.specs.inner.Stored.{storedAt}
 
 -- the test `keeps` is the format's rule
 pub keeps-position : (e : Extent) (position : ℕ) → keeps e position ≡ true → KeepsPosition e position

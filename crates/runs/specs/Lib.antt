@@ -1,5 +1,3 @@
 pub mod Positions
 pub mod Runs
-pub mod Answers
-pub mod Agree
-pub mod Steps
+pub mod inner

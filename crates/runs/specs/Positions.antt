@@ -1,5 +1,5 @@
 -- From a position of a file to the stored byte, over the file's list of extents.
-use Prim.Native.Nat.{ℕ, _+_, _-_, _/_, _%_}
+use Prim.Native.Nat.{ℕ, _+_, _-_, _/_}
 use mathlib.Core.Bool.{Bool, cond, _&&_}
 use mathlib.Core.Option.{Option}
 use mathlib.Core.List.{List}
@@ -16,11 +16,6 @@ keeps e position = leb (e .logical .0) position && ltb position (e .logical .0 +
 -- the raw byte r that a kept position is: position Q+k is raw byte pre+k
 abbrev pub rawByte : Extent → (position : ℕ) → ℕ
 rawByte e position = e .pre + (position - e .logical .0)
-
--- the offset in the volume at which a kept position is stored: P+r for 67, P + r mod S for 82
-unfoldable pub storedAt : Extent → (position : ℕ) → ℕ
-storedAt e position =
-    e .start .0 + cond (eqb (e .multiplicity) 82) (rawByte e position % e .size) (rawByte e position)
 
 -- the copy of the block in which a kept position lies, counted from 0; 67 has one only
 unfoldable pub copyOf : Extent → (position : ℕ) → ℕ

@@ -14,11 +14,13 @@ ghost use Prim.Native.Nat.{_+_, _*_, _<_, _≤_, min};
 ghost use lib.ListN.{length, take};
 ghost use Rattle.number.specs.Number.{put};
 ghost use Rattle.format.specs.Extents.{top};
-ghost use Rattle.extent.specs.Extents.{extentAt, isSound, someBroken, someOverlap};
-ghost use Rattle.runs.specs.Positions.{keeps, storedAt};
-ghost use Rattle.runs.specs.Runs.{runLengths, rangeNumbers};
-ghost use Rattle.runs.specs.Answers.{placeOf, rangeAnswer};
-ghost use Rattle.runs.specs.Steps.{Good, InOrder, Reached, Next, FirstRun, storedRun, holeRun, numbersOf, numbersFrom};
+ghost use Rattle.extent.specs.Extents.{extentAt};
+ghost use Rattle.extent.specs.inner.Tests.{isSound, someBroken, someOverlap};
+ghost use Rattle.runs.specs.Positions.{keeps};
+ghost use Rattle.runs.specs.inner.Stored.{storedAt};
+ghost use Rattle.runs.specs.inner.Computed.{runLengths, rangeNumbers};
+ghost use Rattle.runs.specs.inner.Answers.{placeOf, rangeAnswer};
+ghost use Rattle.runs.specs.inner.Steps.{Good, InOrder, Reached, Next, FirstRun, storedRun, holeRun, numbersOf, numbersFrom};
 
 // How many bytes an extent takes in a list.
 const EXTENT_LEN: usize = 57;

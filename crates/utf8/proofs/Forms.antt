@@ -8,7 +8,7 @@ use lib.Dec.{leb}
 use lib.ListN.{length, take, drop}
 use borrow.Author.Tests.{leb-true, le-leb, lt-leb}
 use Rattle.utf8.specs.Grammar.{Range, _to_, only, tail, forms, Matches, none, next, Listed, here, there, Char}
-use Rattle.utf8.specs.Length.{inRange, begins, beginLength, charLength}
+use Rattle.utf8.specs.inner.Length.{inRange, begins, beginLength, charLength}
 
 -- The forms, by the rule of the grammar and the first octet.
 

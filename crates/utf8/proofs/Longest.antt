@@ -9,7 +9,7 @@ use lib.ListN.{length, take, drop, length-append, length-drop, take-append-drop}
 use lib.Seq.{length-take-le, take-add, take-length, drop-append-seam}
 use borrow.Author.Tests.{eqb-true, eq-eqb}
 use Rattle.utf8.specs.Grammar.{Char, WellFormed, empty, more, Longest}
-use Rattle.utf8.specs.Length.{charLength, onward, passed, wellFormedLength, isText}
+use Rattle.utf8.specs.inner.Length.{charLength, onward, passed, wellFormedLength, isText}
 use Rattle.utf8.proofs.Forms.{char-complete, char-sound}
 
 -- One character more, or none.

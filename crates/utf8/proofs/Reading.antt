@@ -14,7 +14,7 @@ use borrow.Author.Needs.{zero≤}
 use borrow.Author.Tests.{le-leb, lt-leb}
 use Rattle.utf8.specs.Ascii.{AsciiRun}
 use Rattle.utf8.specs.Grammar.{Range, _to_, forms, Listed}
-use Rattle.utf8.specs.Length.{inRange, begins, charLength, wellFormedLength}
+use Rattle.utf8.specs.inner.Length.{inRange, begins, charLength, wellFormedLength}
 use Rattle.utf8.proofs.Forms.{begins-sound, utf8-1, lead-of-form, lead-between, lead-beyond, char-sound}
 use Rattle.utf8.proofs.Longest.{step, stop, wellFormedLength-within}
 

@@ -2,7 +2,7 @@
 use Prim.Native.Nat.{ℕ}
 use mathlib.Core.Path.{_≡_, refl}
 use mathlib.Core.List.{List, [], _∷_, map}
-use Rattle.utf8.specs.Length.{inRange, begins, beginLength, charLength, onward, passed, wellFormedLength}
+use Rattle.utf8.specs.inner.Length.{inRange, begins, beginLength, charLength, onward, passed, wellFormedLength}
 
 -- a text, and the length of its longest well-formed beginning
 pub data Sample : Type 0 where

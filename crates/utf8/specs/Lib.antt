@@ -1,4 +1,4 @@
 pub mod Ascii
 pub mod Grammar
-pub mod Length
 pub mod Scalar
+pub mod inner

@@ -9,7 +9,7 @@ ghost use Prim.Native.Nat.{_<_, _≤_};
 ghost use lib.ListN.{length, drop, getD};
 ghost use Rattle.utf8.specs.Ascii.{AsciiRun};
 ghost use Rattle.utf8.specs.Grammar.{_to_, tail};
-ghost use Rattle.utf8.specs.Length.{begins, charLength, wellFormedLength, isText};
+ghost use Rattle.utf8.specs.inner.Length.{begins, charLength, wellFormedLength, isText};
 
 // The length of the text's longest well-formed beginning.
 pub fn well_formed_len(text: &[u8]) -> usize

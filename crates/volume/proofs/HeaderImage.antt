@@ -20,8 +20,8 @@ use Rattle.refusal.specs.Refusal.{refusalOf}
 use Rattle.format.specs.Layout.{sealed}
 use Rattle.format.specs.Headers.{Header, magic, headerFields, headerImage, noHash, HeaderRules}
 use Rattle.format.proofs.Seal.{length-sealed, seal-part, part-sealed}
-use Rattle.block.specs.Order.{volumeLimit, sumWrong}
-use Rattle.volume.specs.Heading.{idOf, sequenceOf, previousOf, hashWrong, headerFault}
+use Rattle.block.specs.Order.{volumeLimit, checksumWrong}
+use Rattle.volume.specs.Heading.{headerBytes, sequenceOf, hashWrong, headerFault}
 use Rattle.volume.specs.Heading.{firstMark, headerAnswer}
 use Rattle.volume.specs.declared.Header.{Header as Given}
 use Rattle.volume.specs.declared.HeaderAnswer.{HeaderAnswer}
@@ -30,7 +30,7 @@ use Rattle.volume.proofs.Passed.{HeaderPassed, header-passed}
 
 -- the header that the first 80 bytes show
 abbrev pub headerAt : (volume : List ℕ) → Header
-headerAt volume = record { id = idOf volume; sequence = sequenceOf volume; previous = previousOf volume }
+headerAt volume = record { id = headerBytes "file system ID" volume; sequence = sequenceOf volume; previous = headerBytes "previous hash" volume }
 
 -- From the checks to the image.
 
@@ -72,7 +72,7 @@ module _ (volume : List ℕ) (b : Bytes volume) (e : headerFault volume ≡ 0) w
       (join volume 36 8 32 (sym (leBytes-numberAt volume 36 8 b (omega arith))) refl)))))
 
   pub header-sound : HeaderStands volume
-  unfolding headerImage sumWrong
+  unfolding headerImage checksumWrong
   header-sound =
       let whole = p .whole in
       let sum : numberAt volume 76 4 ≡ crc (part volume 0 76) = eqb-true _ _ (not-false _ (p .sum-right)) in
@@ -121,7 +121,7 @@ spread header after = simp append-assoc
 
 pub header-complete : (volume : List ℕ) (header : Header) (rest : List ℕ) → HeaderRules header → length volume ≤ volumeLimit
     → volume ≡ headerImage header ++ rest → HeaderShown volume header
-unfolding headerFault headerImage sumWrong sealed leBytes
+unfolding headerFault headerImage checksumWrong sealed leBytes
 header-complete volume header rest rules small e =
     let fields : List ℕ = headerFields header in
     let after : List ℕ = leBytes 4 (crc fields) ++ rest in
@@ -134,9 +134,9 @@ header-complete volume header rest rules small e =
     let d35 = drop-past volume (0 ∷ []) _ 34 1 d34 refl in
     let d36 = drop-past volume (0 ∷ []) _ 35 1 d35 refl in
     let d44 = drop-past volume (leBytes 8 (header .sequence)) _ 36 8 d36 (length-leBytes 8 (header .sequence)) in
-    let i : idOf volume ≡ header .id = part-at volume (header .id) _ 18 16 d18 (rules .id-length) in
+    let i : headerBytes "file system ID" volume ≡ header .id = part-at volume (header .id) _ 18 16 d18 (rules .id-length) in
     let s : sequenceOf volume ≡ header .sequence = number-at volume _ 36 8 (header .sequence) d36 (rules .fit) in
-    let p : previousOf volume ≡ header .previous = part-at volume (header .previous) _ 44 32 d44 (rules .hash-length) in
+    let p : headerBytes "previous hash" volume ≡ header .previous = part-at volume (header .previous) _ 44 32 d44 (rules .hash-length) in
     record {
       no-fault =
           sym (

@@ -9,17 +9,18 @@ use native.Mathlib.Omega.{arith}
 use lib.Dec.{leb, eqb}
 use lib.ListN.{length, drop, length-append, length-drop}
 use borrow.Author.Tests.{ltb-true, leb-true, eqb-true, not-true}
-use borrow.Author.Tests.{lt-ltb, le-ltb, le-leb, lt-leb, eq-eqb, ne-eqb}
+use borrow.Author.Tests.{lt-ltb, le-leb, eq-eqb, ne-eqb}
 use Rattle.number.specs.Number.{Bytes}
 use Rattle.number.proofs.Parts.{drop-part}
 use Rattle.checks.specs.Checks.{firstFault, clear, miss}
-use Rattle.checks.proofs.Laws.{decided, rest, none-append}
+use Rattle.checks.proofs.Laws.{decided, none-append}
 use Rattle.format.specs.Blocks.{Kind, idOf, Block, kindOf, image, BlockRules}
 use Rattle.format.specs.Readings.{timeOf, TimeFollows}
 use Rattle.block.specs.Fields.{idAt, kindWith, kindAt, bodyEnd}
-use Rattle.block.specs.Order.{volumeLimit, unknownId, wrongPlace, kindOrder}
+use Rattle.block.specs.Order.{volumeLimit, unknownId, wrongPlace, kindOrder, blockOrder}
 use Rattle.block.specs.Shown.{blockAt, shown, timeOfBlock}
 use Rattle.block.proofs.Ids.{kind-known, id-known, isTable}
+use Rattle.block.proofs.Passed.{block-numbered, passed-block}
 use Rattle.block.proofs.BlockImage.{Stands, block-sound, Reads, block-complete, length-image, same-time}
 use Rattle.volume.specs.Reading.{isEnd, asOption, mayFollow, markAfter, readFault, nextMark, readAnswer}
 use Rattle.volume.specs.declared.LastTime.{LastTime}
@@ -135,17 +136,10 @@ module _ (volume : List ℕ) (mark : Bookmark) (block : Block) (small : length v
       let own : firstFault (kindOrder (kindAt volume offset) volume offset) ≡ 0 = rw kind (r .no-fault) in
       let later : not (mayFollow (mark .last) (timeOfBlock (blockAt volume offset))) ≡ false
       = rw time (ap not (may-follow (mark .last) (timeOf block) (allowed .time))) in
-      let own-and-later = none-append (kindOrder (kindAt volume offset) volume offset) _ tt own (sym (decided (miss {number = 14} later clear))) in
-      sym (
-      decided (
-      miss (le-ltb volumeLimit (length volume) small)
-      (miss (le-ltb offset 80 base)
-      (miss (lt-leb (length volume) offset more)
-      (miss known
-      (miss place
-      (rest (sym own-and-later))))))
-      )
-      )
+      none-append (blockOrder volume offset (mark .due)) _ (block-numbered volume offset (mark .due))
+      (passed-block volume offset (mark .due)
+      (record { small = small; base = base; more = more; known = known; place = place; own = own }))
+      (sym (decided (miss later clear)))
 
   pub read-complete : (rest : List ℕ) → drop (mark .offset) volume ≡ image block ++ rest → Hands volume mark block
   unfolding readAnswer

@@ -7,17 +7,22 @@ use mathlib.Core.List.{List}
 use lib.ListN.{length}
 use borrow.Author.Tests.{ltb-false, eqb-true, not-false}
 use Rattle.number.specs.Number.{numberAt, part}
-use Rattle.number.specs.Same.{sameBytes}
+use Rattle.number.specs.inner.Same.{sameBytes}
 use Rattle.checks.specs.Checks.{firstFault}
-use Rattle.checks.proofs.Laws.{passed, passed-part}
+use Rattle.checks.proofs.Laws.{passed}
+use Rattle.checks.proofs.Cleared.{both-clear}
+use Rattle.format.specs.Blocks.{Block, image}
 use Rattle.format.specs.Headers.{Header, magic}
-use Rattle.block.specs.Order.{volumeLimit, sumWrong}
+use Rattle.format.specs.Readings.{timeOf}
+use Rattle.block.specs.Order.{volumeLimit, checksumWrong, blockOrder}
 use Rattle.block.specs.Shown.{blockAt, timeOfBlock}
-use Rattle.block.proofs.Passed.{BlockPassed, block-passed}
-use Rattle.request.specs.Requests.{Request, isTable, timeIn, imageIn, overLimit, requestOrder}
-use Rattle.volume.specs.Heading.{sequenceOf, previousOf, hashWrong, headerOrder, headerFault}
-use Rattle.volume.specs.Reading.{mayFollow, readOrder, readFault}
-use Rattle.volume.specs.Writing.{appendOrder, appendFault, writeOrder, writeFault}
+use Rattle.block.proofs.Ids.{isTable}
+use Rattle.block.proofs.Passed.{BlockPassed, block-numbered, block-passed}
+use Rattle.request.specs.Requests.{requestOrder}
+use Rattle.request.proofs.Rules.{request-numbered}
+use Rattle.volume.specs.Heading.{headerBytes, sequenceOf, hashWrong, headerOrder, headerFault}
+use Rattle.volume.specs.Reading.{mayFollow, readFault}
+use Rattle.volume.specs.Writing.{placeOrder, roomOrder, appendFault, writeOrder, writeFault}
 use Rattle.volume.specs.declared.Bookmark.{Bookmark}
 
 pub record HeaderPassed (volume : List ℕ) : Type 0 where
@@ -30,8 +35,8 @@ pub record HeaderPassed (volume : List ℕ) : Type 0 where
   pub crc-algorithm : numberAt volume 34 1 ≡ 0
   pub hash-algorithm : numberAt volume 35 1 ≡ 0
   -- 5, 6
-  pub sum-right : sumWrong volume 0 76 ≡ false
-  pub hash-right : hashWrong (sequenceOf volume) (previousOf volume) ≡ false
+  pub sum-right : checksumWrong volume 0 76 ≡ false
+  pub hash-right : hashWrong (sequenceOf volume) (headerBytes "previous hash" volume) ≡ false
 
 pub header-passed : (volume : List ℕ) → headerFault volume ≡ 0 → HeaderPassed volume
 unfolding headerFault
@@ -57,37 +62,38 @@ pub record ReadPassed (volume : List ℕ) (mark : Bookmark) : Type 0 where
 pub read-passed : (volume : List ℕ) (mark : Bookmark) → readFault volume mark ≡ 0 → ReadPassed volume mark
 unfolding readFault
 read-passed volume mark e =
-    let order = readOrder volume mark in
+    let own = blockOrder volume (mark .offset) (mark .due) in
+    let parts = both-clear own _ (block-numbered volume (mark .offset) (mark .due)) e in
     record {
-      block = block-passed volume (mark .offset) (mark .due) (passed-part 0 13 order tt e);
-      time = not-false _ (passed 13 order tt e);
+      block = block-passed volume (mark .offset) (mark .due) (parts .0);
+      time = not-false _ (passed 0 _ tt (parts .1));
     }
 
-pub record AppendPassed (room : ℕ) (mark : Bookmark) (request : Request) : Type 0 where
+pub record AppendPassed (room : ℕ) (mark : Bookmark) (block : Block) : Type 0 where
   -- 8, twice
   pub base : 80 ≤ mark .offset
-  pub place : not (Bool·beq (mark .due) (isTable request)) ≡ false
-  -- the request's own checks, and the first of them, 9
-  pub own : firstFault (requestOrder request) ≡ 0
-  pub not-over : overLimit request ≡ false
+  pub place : not (Bool·beq (mark .due) (isTable block)) ≡ false
+  -- the block's own checks
+  pub own : firstFault (requestOrder block) ≡ 0
   -- 14, 1, 17
-  pub time : mayFollow (mark .last) (timeIn request) ≡ true
-  pub small : mark .offset + length (imageIn request) ≤ volumeLimit
-  pub fits : mark .offset + length (imageIn request) ≤ room
+  pub time : mayFollow (mark .last) (timeOf block) ≡ true
+  pub small : mark .offset + length (image block) ≤ volumeLimit
+  pub fits : mark .offset + length (image block) ≤ room
 
-pub append-passed : (room : ℕ) (mark : Bookmark) (request : Request) → appendFault room mark request ≡ 0
-    → AppendPassed room mark request
+pub append-passed : (room : ℕ) (mark : Bookmark) (block : Block) → appendFault room mark block ≡ 0 → AppendPassed room mark block
 unfolding appendFault
-append-passed room mark request e =
-    let order = appendOrder room mark request in
+append-passed room mark block e =
+    let place = placeOrder mark (isTable block) in
+    let parts = both-clear place _ tt e in
+    let others = both-clear (requestOrder block) _ (request-numbered block) (parts .1) in
+    let last = roomOrder mark (timeOf block) (length (image block)) room in
     record {
-      base = ltb-false _ _ (passed 0 order tt e);
-      place = passed 1 order tt e;
-      own = passed-part 2 6 order tt e;
-      not-over = passed 2 order tt e;
-      time = not-false _ (passed 8 order tt e);
-      small = ltb-false _ _ (passed 9 order tt e);
-      fits = ltb-false _ _ (passed 10 order tt e);
+      base = ltb-false _ _ (passed 0 place tt (parts .0));
+      place = passed 1 place tt (parts .0);
+      own = others .0;
+      time = not-false _ (passed 0 last tt (others .1));
+      small = ltb-false _ _ (passed 1 last tt (others .1));
+      fits = ltb-false _ _ (passed 2 last tt (others .1));
     }
 
 pub record WritePassed (room : ℕ) (header : Header) : Type 0 where

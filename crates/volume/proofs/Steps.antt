@@ -6,15 +6,17 @@ use mathlib.Core.List.{List}
 use native.Mathlib.Omega.{arith}
 use lib.Dec.{eqb}
 use lib.ListN.{length}
-use borrow.Author.Tests.{ltb-false, eqb-true, eqb-false, eq-eqb, ne-eqb}
-use Rattle.checks.proofs.Laws.{passed}
+use borrow.Author.Tests.{eqb-true, eqb-false, eq-eqb, ne-eqb}
 use Rattle.refusal.specs.Refusal.{refusalOf}
+use Rattle.block.specs.Fields.{kindAt}
 use Rattle.block.specs.Shown.{blockAt}
-use Rattle.volume.specs.Reading.{isEnd, readOrder, readFault, nextMark, readAnswer}
+use Rattle.block.proofs.Passed.{kind-passed}
+use Rattle.volume.specs.Reading.{isEnd, readFault, nextMark, readAnswer}
 use Rattle.volume.specs.declared.Bookmark.{Bookmark}
 use Rattle.volume.specs.declared.Found.{Found}
 use Rattle.volume.specs.declared.ReadAnswer.{ReadAnswer}
 use Rattle.volume.specs.declared.ReadAnswer.the-variants.{Found as Block, End, Refused}
+use Rattle.volume.proofs.Passed.{read-passed}
 
 -- the block at a bookmark and the bookmark after it
 abbrev pub foundAt : (volume : List ℕ) → Bookmark → Found
@@ -54,8 +56,9 @@ module _ (volume : List ℕ) (mark : Bookmark) where
 -- where no check is at fault, the next bookmark lies further on, and within the volume
 pub sound-further : (volume : List ℕ) (mark : Bookmark) → readFault volume mark ≡ 0
     → (mark .offset < nextMark volume mark .offset) × (nextMark volume mark .offset ≤ length volume)
-unfolding readFault
-sound-further volume mark e = (omega arith, ltb-false _ _ (passed 7 (readOrder volume mark) tt e))
+sound-further volume mark e =
+    let own = read-passed volume mark e .block .own in
+    (omega arith, kind-passed volume (mark .offset) (kindAt volume (mark .offset)) own .whole)
 
 pub read-further : (volume : List ℕ) (mark : Bookmark) (found : Found) → readAnswer volume mark ≡ Block found
     → (mark .offset < found .next .offset) × (found .next .offset ≤ length volume)

@@ -9,6 +9,7 @@ use Rattle.checks.specs.Checks.{firstFault}
 use Rattle.checks.proofs.Laws.{firstFault-append}
 use Rattle.block.specs.Order.{blockOrder}
 use Rattle.block.specs.Shown.{blockAt, timeOfBlock}
+use Rattle.block.proofs.Passed.{block-numbered}
 use Rattle.volume.specs.Heading.{headerFault}
 use Rattle.volume.specs.Reading.{mayFollow, readFault}
 use Rattle.volume.specs.declared.Bookmark.{Bookmark}
@@ -22,10 +23,10 @@ module _ (volume : List ℕ) (mark : Bookmark) (fault : ℕ) (told : fault ≡ f
   pub block-decides : (fault ≡ 0 → ⊥) → fault ≡ readFault volume mark
   unfolding readFault
   block-decides n =
-      rw (firstFault-append (blockOrder volume (mark .offset) (mark .due)) _ tt, ← told, ne-eqb fault 0 n)
+      rw (firstFault-append (blockOrder volume (mark .offset) (mark .due)) _ (block-numbered volume (mark .offset) (mark .due)), ← told, ne-eqb fault 0 n)
 
   pub time-decides : (follows : Bool) → fault ≡ 0 → follows ≡ mayFollow (mark .last) (timeOfBlock (blockAt volume (mark .offset)))
       → readFault volume mark ≡ cond (not follows) 14 0
   unfolding readFault firstFault
   time-decides follows z e =
-      rw (firstFault-append (blockOrder volume (mark .offset) (mark .due)) _ tt, ← told, eq-eqb fault 0 z, ← e)
+      rw (firstFault-append (blockOrder volume (mark .offset) (mark .due)) _ (block-numbered volume (mark .offset) (mark .due)), ← told, eq-eqb fault 0 z, ← e)

@@ -1,5 +1,5 @@
--- What the eight appends share, over any request: how long its image is, what the fault that `append_fault` answers means, and
--- that a refusal and an acceptance are the answers that the definitions give. Assumes nothing.
+-- What the eight appends share, over any block: what the fault that `append_fault` answers means, and that a refusal and an
+-- acceptance are the answers that the definitions give. Assumes nothing.
 use Prim.Native.Nat.{ℕ, suc, _+_, _≤_, _<_}
 use mathlib.Core.Path.{_≡_, refl, sym, ap, _∙_}
 use mathlib.Core.Bool.{Bool, true, false, not, cond, _||_}
@@ -14,40 +14,30 @@ use Rattle.checks.specs.Checks.{Check, check, firstFault}
 use Rattle.checks.proofs.Laws.{numbered, firstFault-append}
 use Rattle.refusal.specs.Refusal.{refusalOf}
 use Rattle.refusal.specs.declared.Refusal.{Refusal}
-use Rattle.format.specs.Blocks.{inodeBlock, linkBlock, unlinkBlock, xattrBlock, removedXattrBlock, dataBlock, renameBlock, linkTable}
+use Rattle.format.specs.Blocks.{Block, kindOf, body, image, BlockRules}
 use Rattle.format.specs.Headers.{Header, headerImage}
-use Rattle.encode.specs.Images.{sizeOf}
-use Rattle.encode.proofs.Lengths.{length-imageOf}
-use Rattle.request.specs.Requests.{Request, Inode, Link, Unlink, Xattr, RemovedXattr, Data, Rename, Table}
-use Rattle.request.specs.Requests.{kindIn, isTable, bodyIn, timeIn, imageIn, overLimit, requestOrder}
+use Rattle.format.specs.Readings.{timeOf}
+use Rattle.block.proofs.Ids.{isTable}
+use Rattle.encode.proofs.Lengths.{sizeOf, length-image}
+use Rattle.request.specs.Requests.{requestOrder}
 use Rattle.request.specs.Asking.{Sized}
+use Rattle.request.proofs.Rules.{request-numbered, request-sound}
 use Rattle.volume.specs.Heading.{firstMark}
 use Rattle.volume.specs.Reading.{markAfter}
-use Rattle.volume.specs.Writing.{placeOrder, askedOrder, appendFault, appendAnswer, appendBuffer}
+use Rattle.volume.specs.Writing.{placeOrder, appendFault, appendAnswer, appendBuffer}
 use Rattle.volume.specs.Writing.{SizedHeader, writeFault, writeAnswer, writeBuffer}
+use Rattle.volume.specs.inner.Asked.{askedOrder}
 use Rattle.volume.specs.declared.Bookmark.{Bookmark}
 use Rattle.volume.specs.declared.WriteAnswer.the-variants.{Next, Refused}
 use Rattle.volume.proofs.Passed.{append-passed, write-passed}
 
--- How long an image is, also where a length does not fit its field.
-
-pub length-imageIn : (request : Request) → length (imageIn request) ≡ sizeOf (kindIn request) + length (bodyIn request)
-length-imageIn (Inode number time mode uid gid atime mtime ctime btime size rest) = length-imageOf inodeBlock _ rest refl
-length-imageIn (Link time child parent name) = length-imageOf linkBlock _ name refl
-length-imageIn (Unlink time child parent name) = length-imageOf unlinkBlock _ name refl
-length-imageIn (Xattr time number name value) = length-imageOf xattrBlock _ (name ++ value) refl
-length-imageIn (RemovedXattr time number name) = length-imageOf removedXattrBlock _ name refl
-length-imageIn (Data time payload) = length-imageOf dataBlock _ payload refl
-length-imageIn (Rename time old new) = length-imageOf renameBlock _ (old ++ new) refl
-length-imageIn (Table count links) = length-imageOf linkTable _ links refl
-
 -- What an append does with its fault.
 
--- the arguments are sized, the body has this length, and the append's first fault is this one
-pub record Told (buffer : List ℕ) (mark : Bookmark) (request : Request) (body fault : ℕ) : Type 0 where
-  pub sized : Sized request
-  pub long : body ≡ length (bodyIn request)
-  pub fault-is : fault ≡ appendFault (length buffer) mark request
+-- the arguments are sized, the variable parts have this length, and the append's first fault is this one
+pub record Told (buffer : List ℕ) (mark : Bookmark) (block : Block) (len fault : ℕ) : Type 0 where
+  pub sized : Sized block
+  pub long : len ≡ length (body block)
+  pub fault-is : fault ≡ appendFault (length buffer) mark block
 
 turned : (clear : Bool) (a b : ℕ) → cond (not clear) a b ≡ cond clear b a
 turned true a b = refl
@@ -63,53 +53,43 @@ by-first-fault before own after asked p q e =
     firstFault-append before _ p ∙ rw same (sym (firstFault-append before (own ++ after) p))
 
 -- what `append_fault` answers, told what the crate `request` says of the request itself
-module _ (buffer : List ℕ) (mark : Bookmark) (request : Request) where
-  pub told : {asked body fault : ℕ} → (asked ≡ firstFault (requestOrder request)) × Sized request → body ≡ length (bodyIn request)
-      → fault ≡ firstFault (askedOrder (length buffer) mark (isTable request) asked (timeIn request) (sizeOf (kindIn request) + body))
-      → Told buffer mark request body fault
+module _ (buffer : List ℕ) (mark : Bookmark) (block : Block) where
+  pub told : {asked len fault : ℕ} → (asked ≡ firstFault (requestOrder block)) × Sized block → len ≡ length (body block)
+      → fault ≡ firstFault (askedOrder (length buffer) mark (isTable block) asked (timeOf block) (sizeOf (kindOf block) + len))
+      → Told buffer mark block len fault
   unfolding appendFault
-  told {asked} {body} own long e =
-      let n : sizeOf (kindIn request) + body ≡ length (imageIn request)
-      = ap (λ (n : ℕ). sizeOf (kindIn request) + n) long ∙ sym (length-imageIn request) in
+  told {asked} {len} own long e =
+      let n : sizeOf (kindOf block) + len ≡ length (image block)
+      = ap (λ (n : ℕ). sizeOf (kindOf block) + n) long ∙ sym (length-image block) in
       record {
         sized = own .1;
         long = long;
-        fault-is = e ∙ rw n (by-first-fault (placeOrder mark (isTable request)) (requestOrder request) _ asked tt tt (own .0));
+        fault-is = e ∙ rw n (by-first-fault (placeOrder mark (isTable block)) (requestOrder block) _ asked tt (request-numbered block) (own .0));
       }
 
-module _ {buffer : List ℕ} {mark : Bookmark} {request : Request} {body fault : ℕ} (t : Told buffer mark request body fault) where
-  -- where there is none, the image fits the buffer and no length is over its limit
-  pub room-left : fault ≡ 0 → mark .offset + (sizeOf (kindIn request) + body) ≤ length buffer
-  room-left z = omega (arith, length-imageIn request, t .long, append-passed (length buffer) mark request (sym (t .fault-is) ∙ z) .fits)
+module _ {buffer : List ℕ} {mark : Bookmark} {block : Block} {len fault : ℕ} (t : Told buffer mark block len fault) where
+  -- where there is none, the image fits the buffer and the block keeps the rules: each length fits its field
+  pub room-left : fault ≡ 0 → mark .offset + (sizeOf (kindOf block) + len) ≤ length buffer
+  room-left z = omega (arith, length-image block, t .long, append-passed (length buffer) mark block (sym (t .fault-is) ∙ z) .fits)
 
-  pub not-over : fault ≡ 0 → overLimit request ≡ false
-  not-over z = append-passed (length buffer) mark request (sym (t .fault-is) ∙ z) .not-over
+  pub keeps : fault ≡ 0 → BlockRules block
+  keeps z = request-sound block (t .sized) (append-passed (length buffer) mark block (sym (t .fault-is) ∙ z) .own)
 
   -- a refusal leaves the buffer as it was
   pub refused : {refusal : Refusal} → refusal ≡ refusalOf fault → (fault ≡ 0 → ⊥)
-      → (Refused refusal ≡ appendAnswer (length buffer) mark request) × ((buffer ≡ appendBuffer buffer mark request) × Sized request)
+      → (Refused refusal ≡ appendAnswer (length buffer) mark block) × ((buffer ≡ appendBuffer buffer mark block) × Sized block)
   unfolding appendAnswer appendBuffer
   refused e n = (rw (← t .fault-is, ne-eqb fault 0 n, e), (rw (← t .fault-is, ne-eqb fault 0 n), t .sized))
 
   -- an acceptance leaves the image in it, and the bookmark goes on by the image's length
-  pub accepted : {new : List ℕ} {next : Bookmark} → fault ≡ 0 → new ≡ put buffer (mark .offset) (imageIn request)
-      → next ≡ markAfter mark (mark .offset + sizeOf (kindIn request) + body) (timeIn request)
-      → (Next next ≡ appendAnswer (length buffer) mark request) × ((new ≡ appendBuffer buffer mark request) × Sized request)
+  pub accepted : {new : List ℕ} {next : Bookmark} → fault ≡ 0 → new ≡ put buffer (mark .offset) (image block)
+      → next ≡ markAfter mark (mark .offset + sizeOf (kindOf block) + len) (timeOf block)
+      → (Next next ≡ appendAnswer (length buffer) mark block) × ((new ≡ appendBuffer buffer mark block) × Sized block)
   unfolding appendAnswer appendBuffer
   accepted z e f =
-      let n : mark .offset + sizeOf (kindIn request) + body ≡ mark .offset + length (imageIn request)
-      = omega (arith, length-imageIn request, t .long) in
+      let n : mark .offset + sizeOf (kindOf block) + len ≡ mark .offset + length (image block)
+      = omega (arith, length-image block, t .long) in
       (rw (← t .fault-is, eq-eqb fault 0 z, f, n), (rw (← t .fault-is, eq-eqb fault 0 z, e), t .sized))
-
--- What a limit that is not passed says of the length of a name, a value or a path.
-
-pub short : (most n : ℕ) → ltb most n ≡ false → n < suc most
-short most n e = let h : n ≤ most = ltb-false most n e in omega arith
-
-pub both-short : (most most′ m n : ℕ) → ltb most m || ltb most′ n ≡ false → (m < suc most) × (n < suc most′)
-both-short most most′ m n e =
-    let f = both-false (ltb most m) (ltb most′ n) .0 e in
-    (short most m (f .0), short most′ n (f .1))
 
 -- The same for a header.
 

@@ -1,36 +1,32 @@
 -- What reading a header answers.
 use Prim.Native.Nat.{ℕ}
+use Prim.Native.String.{String}
 use mathlib.Core.Bool.{Bool, not, cond, _&&_}
 use mathlib.Core.List.{List, [], _∷_}
 use lib.Dec.{ltb, eqb}
 use lib.ListN.{length}
 use Rattle.number.specs.Number.{numberAt, part}
-use Rattle.number.specs.Same.{sameBytes}
+use Rattle.number.specs.inner.Same.{sameBytes}
 use Rattle.number.specs.Address.{Address, addressIn}
 use Rattle.checks.specs.Checks.{Check, check, firstFault}
 use Rattle.refusal.specs.Refusal.{refusalOf}
-use Rattle.format.specs.Headers.{magic, noHash}
-use Rattle.block.specs.Order.{volumeLimit, sumWrong}
+use Rattle.format.specs.Layout.{startOf, widthOf, total, widthsIn}
+use Rattle.format.specs.Headers.{headerLayout, magic, noHash}
+use Rattle.block.specs.Order.{volumeLimit, checksumWrong}
 use Rattle.volume.specs.declared.LastTime.the-variants.{Never}
 use Rattle.volume.specs.declared.Bookmark.{Bookmark}
 use Rattle.volume.specs.declared.HeaderAnswer.{HeaderAnswer}
 use Rattle.volume.specs.declared.HeaderAnswer.the-variants.{Accepted, Refused}
 
--- the fields of a header, where they stand; the file system ID and the previous hash are handed out as parts of the volume
-abbrev pub idOffset : ℕ
-idOffset = 18
+-- the bytes of a field of the header, by its name, and the number that they make
+abbrev pub headerBytes : (name : String) (volume : List ℕ) → List ℕ
+headerBytes name volume = part volume (startOf name headerLayout) (widthOf name headerLayout)
 
-abbrev pub previousOffset : ℕ
-previousOffset = 44
-
-abbrev pub idOf : (volume : List ℕ) → List ℕ
-idOf volume = part volume idOffset 16
+abbrev pub headerNumber : (name : String) (volume : List ℕ) → ℕ
+headerNumber name volume = numberAt volume (startOf name headerLayout) (widthOf name headerLayout)
 
 abbrev pub sequenceOf : (volume : List ℕ) → ℕ
-sequenceOf volume = numberAt volume 36 8
-
-abbrev pub previousOf : (volume : List ℕ) → List ℕ
-previousOf volume = part volume previousOffset 32
+sequenceOf volume = headerNumber "sequence number" volume
 
 -- 6: volume 0 with a previous hash that is not 32 zero bytes
 abbrev pub hashWrong : (sequence : ℕ) (previous : List ℕ) → Bool
@@ -39,12 +35,12 @@ hashWrong sequence previous = eqb sequence 0 && not (sameBytes previous noHash)
 -- the checks of the fields of a header: 3, 4 (version, CRC algorithm, hash algorithm), 5, 6
 abbrev pub fieldOrder : (volume : List ℕ) → List Check
 fieldOrder volume =
-    check (not (sameBytes (part volume 0 17) magic)) 3
-    ∷ check (not (eqb (numberAt volume 17 1) 0)) 4
-    ∷ check (not (eqb (numberAt volume 34 1) 0)) 4
-    ∷ check (not (eqb (numberAt volume 35 1) 0)) 4
-    ∷ check (sumWrong volume 0 76) 5
-    ∷ check (hashWrong (sequenceOf volume) (previousOf volume)) 6
+    check (not (sameBytes (headerBytes "magic" volume) magic)) 3
+    ∷ check (not (eqb (headerNumber "version" volume) 0)) 4
+    ∷ check (not (eqb (headerNumber "CRC algorithm" volume) 0)) 4
+    ∷ check (not (eqb (headerNumber "hash algorithm" volume) 0)) 4
+    ∷ check (checksumWrong volume 0 (total (widthsIn headerLayout))) 5
+    ∷ check (hashWrong (sequenceOf volume) (headerBytes "previous hash" volume)) 6
     ∷ []
 
 -- the checks of a header: 1, 2, and those of its fields
@@ -74,3 +70,10 @@ partAnswer volume offset len = cond (eqb (headerFault volume) 0) (part volume of
 -- and where it begins, by where the volume does; the empty part begins at the volume's beginning
 unfoldable pub partAddress : (volume : List ℕ) (whole : Address) (offset : ℕ) → Address
 partAddress volume whole offset = addressIn whole (cond (eqb (headerFault volume) 0) offset 0)
+
+-- the same of a field, by its name
+abbrev pub fieldAnswer : (name : String) (volume : List ℕ) → List ℕ
+fieldAnswer name volume = partAnswer volume (startOf name headerLayout) (widthOf name headerLayout)
+
+abbrev pub fieldAddress : (name : String) (volume : List ℕ) (whole : Address) → Address
+fieldAddress name volume whole = partAddress volume whole (startOf name headerLayout)

@@ -8,9 +8,11 @@ use lib.ListN.{length}
 use Rattle.number.specs.Number.{Bytes, put}
 use Rattle.checks.specs.Checks.{Check, check, firstFault}
 use Rattle.refusal.specs.Refusal.{refusalOf}
+use Rattle.format.specs.Blocks.{idOf, Block, kindOf, image}
 use Rattle.format.specs.Headers.{Header, headerImage}
+use Rattle.format.specs.Readings.{timeOf}
 use Rattle.block.specs.Order.{volumeLimit}
-use Rattle.request.specs.Requests.{Request, isTable, timeIn, imageIn, requestOrder}
+use Rattle.request.specs.Requests.{requestOrder}
 use Rattle.volume.specs.Heading.{hashWrong, firstMark}
 use Rattle.volume.specs.Reading.{mayFollow, markAfter}
 use Rattle.volume.specs.declared.Bookmark.{Bookmark}
@@ -33,30 +35,25 @@ roomOrder mark time len room =
     ∷ []
 
 -- the checks of an append: 8, 9, 11 (link bytes), 10, 11 (inode), 12, 13, 14, 1, 17
-abbrev pub appendOrder : (room : ℕ) → Bookmark → Request → List Check
-appendOrder room mark request =
-    placeOrder mark (isTable request)
-    ++ (requestOrder request ++ roomOrder mark (timeIn request) (length (imageIn request)) room)
+abbrev pub appendOrder : (room : ℕ) → Bookmark → Block → List Check
+appendOrder room mark block =
+    placeOrder mark (eqb (idOf (kindOf block)) 8)
+    ++ (requestOrder block ++ roomOrder mark (timeOf block) (length (image block)) room)
 
--- the same checks, where the request's own are known by their first fault, which is 0 if there is none
-abbrev pub askedOrder : (room : ℕ) → Bookmark → (table : Bool) (asked : ℕ) (time : Option ℕ) (len : ℕ) → List Check
-askedOrder room mark table asked time len =
-    placeOrder mark table ++ (check (not (eqb asked 0)) asked ∷ roomOrder mark time len room)
-
-unfoldable pub appendFault : (room : ℕ) → Bookmark → Request → ℕ
-appendFault room mark request = firstFault (appendOrder room mark request)
+unfoldable pub appendFault : (room : ℕ) → Bookmark → Block → ℕ
+appendFault room mark block = firstFault (appendOrder room mark block)
 
 -- the bookmark after the block, or the refusal
-unfoldable pub appendAnswer : (room : ℕ) → Bookmark → Request → WriteAnswer
-appendAnswer room mark request =
-    cond (eqb (appendFault room mark request) 0)
-    (Next (markAfter mark (mark .offset + length (imageIn request)) (timeIn request)))
-    (Refused (refusalOf (appendFault room mark request)))
+unfoldable pub appendAnswer : (room : ℕ) → Bookmark → Block → WriteAnswer
+appendAnswer room mark block =
+    cond (eqb (appendFault room mark block) 0)
+    (Next (markAfter mark (mark .offset + length (image block)) (timeOf block)))
+    (Refused (refusalOf (appendFault room mark block)))
 
 -- the buffer with the image at the bookmark's offset; as it was on refusal
-unfoldable pub appendBuffer : (buffer : List ℕ) → Bookmark → Request → List ℕ
-appendBuffer buffer mark request =
-    cond (eqb (appendFault (length buffer) mark request) 0) (put buffer (mark .offset) (imageIn request)) buffer
+unfoldable pub appendBuffer : (buffer : List ℕ) → Bookmark → Block → List ℕ
+appendBuffer buffer mark block =
+    cond (eqb (appendFault (length buffer) mark block) 0) (put buffer (mark .offset) (image block)) buffer
 
 -- the checks of writing a header: 11 (file system ID, previous hash), 6, 17
 abbrev pub writeOrder : (room : ℕ) → Header → List Check

@@ -20,7 +20,7 @@ ghost use Prim.Native.Nat.{_-_, _≤_};
 ghost use lib.ListN.{length};
 ghost use Rattle.checks.specs.Checks.{firstFault};
 ghost use Rattle.volume.specs.Heading.{hashWrong, fieldOrder, headerFault, firstMark, headerAnswer};
-ghost use Rattle.volume.specs.Heading.{idOffset, previousOffset, partAnswer, partAddress};
+ghost use Rattle.volume.specs.Heading.{partAnswer, partAddress, fieldAnswer, fieldAddress};
 ghost use Rattle.volume.specs.Writing.{SizedHeader, writeFault, writeAnswer, writeBuffer};
 
 // The lengths of a file system ID and of a hash.
@@ -115,16 +115,16 @@ fn handed_out(volume: &[u8], from: usize, to: usize) -> &[u8]
 
 // The file system ID, as a part of the volume; empty where the header is refused.
 pub fn file_system_id(volume: &[u8]) -> &[u8]
-    ensures bytes { λ r. ⌜ now r ≡ partAnswer (now (volume .entry)) idOffset 16 ⌝ }
-    ensures address { λ r. ⌜ r .ptr ≡ partAddress (now (volume .entry)) (volume .entry .ptr) idOffset ⌝ }
+    ensures bytes { λ r. ⌜ now r ≡ fieldAnswer "file system ID" (now (volume .entry)) ⌝ }
+    ensures address { λ r. ⌜ r .ptr ≡ fieldAddress "file system ID" (now (volume .entry)) (volume .entry .ptr) ⌝ }
 {
     handed_out(volume, 18, 34)
 }
 
 // The hash of the previous volume, as a part of the volume; empty where the header is refused.
 pub fn previous_hash(volume: &[u8]) -> &[u8]
-    ensures bytes { λ r. ⌜ now r ≡ partAnswer (now (volume .entry)) previousOffset 32 ⌝ }
-    ensures address { λ r. ⌜ r .ptr ≡ partAddress (now (volume .entry)) (volume .entry .ptr) previousOffset ⌝ }
+    ensures bytes { λ r. ⌜ now r ≡ fieldAnswer "previous hash" (now (volume .entry)) ⌝ }
+    ensures address { λ r. ⌜ r .ptr ≡ fieldAddress "previous hash" (now (volume .entry)) (volume .entry .ptr) ⌝ }
 {
     handed_out(volume, 44, 76)
 }

@@ -19,10 +19,11 @@ ghost use Prim.Native.Nat.{_+_};
 ghost use lib.Dec.{ltb};
 ghost use lib.ListN.{length};
 ghost use Rattle.checks.specs.Checks.{firstFault};
-ghost use Rattle.request.specs.Requests.{Inode, Link, Unlink, Xattr, RemovedXattr, Data, Rename, Table};
+ghost use Rattle.format.specs.Blocks.{Inode, Link, Unlink, Xattr, RemovedXattr, Data, Rename, Table};
 ghost use Rattle.request.specs.Asking.{Sized};
 ghost use Rattle.volume.specs.Reading.{asOption};
-ghost use Rattle.volume.specs.Writing.{placeOrder, roomOrder, askedOrder, appendAnswer, appendBuffer};
+ghost use Rattle.volume.specs.Writing.{placeOrder, roomOrder, appendAnswer, appendBuffer};
+ghost use Rattle.volume.specs.inner.Asked.{askedOrder};
 
 // How many bytes the image of a kind has besides those of its variable parts.
 const INODE_SIZE: usize = 75;
@@ -58,10 +59,10 @@ impl Bookmark {
         rest: &[u8],
     ) -> WriteAnswer
         ensures answer { λ r. ⌜ r ≡ appendAnswer (length (now (buf .entry))) self
-            (Inode inode time mode uid gid atime mtime ctime btime size (now (rest .entry))) ⌝ }
+            (Inode (record { inode = inode; time = time; mode = mode; uid = uid; gid = gid; atime = atime; mtime = mtime; ctime = ctime; btime = btime; size = size; rest = now (rest .entry) })) ⌝ }
         ensures buffer { λ _. ⌜ now (buf .exit) ≡ appendBuffer (now (buf .entry)) self
-            (Inode inode time mode uid gid atime mtime ctime btime size (now (rest .entry))) ⌝ }
-        ensures sized { λ _. ⌜ Sized (Inode inode time mode uid gid atime mtime ctime btime size (now (rest .entry))) ⌝ }
+            (Inode (record { inode = inode; time = time; mode = mode; uid = uid; gid = gid; atime = atime; mtime = mtime; ctime = ctime; btime = btime; size = size; rest = now (rest .entry) })) ⌝ }
+        ensures sized { λ _. ⌜ Sized (Inode (record { inode = inode; time = time; mode = mode; uid = uid; gid = gid; atime = atime; mtime = mtime; ctime = ctime; btime = btime; size = size; rest = now (rest .entry) })) ⌝ }
     {
         let offset = self.offset;
         let body = rest.len();
@@ -111,10 +112,10 @@ impl Bookmark {
         name: &[u8],
     ) -> WriteAnswer
         ensures answer { λ r. ⌜ r ≡ appendAnswer (length (now (buf .entry))) self
-            (Link time child parent (now (name .entry))) ⌝ }
+            (Link (record { time = time; child = child; parent = parent; name = now (name .entry) })) ⌝ }
         ensures buffer { λ _. ⌜ now (buf .exit) ≡ appendBuffer (now (buf .entry)) self
-            (Link time child parent (now (name .entry))) ⌝ }
-        ensures sized { λ _. ⌜ Sized (Link time child parent (now (name .entry))) ⌝ }
+            (Link (record { time = time; child = child; parent = parent; name = now (name .entry) })) ⌝ }
+        ensures sized { λ _. ⌜ Sized (Link (record { time = time; child = child; parent = parent; name = now (name .entry) })) ⌝ }
     {
         let offset = self.offset;
         let body = name.len();
@@ -138,10 +139,10 @@ impl Bookmark {
         name: &[u8],
     ) -> WriteAnswer
         ensures answer { λ r. ⌜ r ≡ appendAnswer (length (now (buf .entry))) self
-            (Unlink time child parent (now (name .entry))) ⌝ }
+            (Unlink (record { time = time; child = child; parent = parent; name = now (name .entry) })) ⌝ }
         ensures buffer { λ _. ⌜ now (buf .exit) ≡ appendBuffer (now (buf .entry)) self
-            (Unlink time child parent (now (name .entry))) ⌝ }
-        ensures sized { λ _. ⌜ Sized (Unlink time child parent (now (name .entry))) ⌝ }
+            (Unlink (record { time = time; child = child; parent = parent; name = now (name .entry) })) ⌝ }
+        ensures sized { λ _. ⌜ Sized (Unlink (record { time = time; child = child; parent = parent; name = now (name .entry) })) ⌝ }
     {
         let offset = self.offset;
         let body = name.len();
@@ -165,10 +166,10 @@ impl Bookmark {
         value: &[u8],
     ) -> WriteAnswer
         ensures answer { λ r. ⌜ r ≡ appendAnswer (length (now (buf .entry))) self
-            (Xattr time inode (now (name .entry)) (now (value .entry))) ⌝ }
+            (Xattr (record { time = time; inode = inode; name = now (name .entry); value = now (value .entry) })) ⌝ }
         ensures buffer { λ _. ⌜ now (buf .exit) ≡ appendBuffer (now (buf .entry)) self
-            (Xattr time inode (now (name .entry)) (now (value .entry))) ⌝ }
-        ensures sized { λ _. ⌜ Sized (Xattr time inode (now (name .entry)) (now (value .entry))) ⌝ }
+            (Xattr (record { time = time; inode = inode; name = now (name .entry); value = now (value .entry) })) ⌝ }
+        ensures sized { λ _. ⌜ Sized (Xattr (record { time = time; inode = inode; name = now (name .entry); value = now (value .entry) })) ⌝ }
     {
         let offset = self.offset;
         let body = name.len() + value.len();
@@ -191,10 +192,10 @@ impl Bookmark {
         name: &[u8],
     ) -> WriteAnswer
         ensures answer { λ r. ⌜ r ≡ appendAnswer (length (now (buf .entry))) self
-            (RemovedXattr time inode (now (name .entry))) ⌝ }
+            (RemovedXattr (record { time = time; inode = inode; name = now (name .entry) })) ⌝ }
         ensures buffer { λ _. ⌜ now (buf .exit) ≡ appendBuffer (now (buf .entry)) self
-            (RemovedXattr time inode (now (name .entry))) ⌝ }
-        ensures sized { λ _. ⌜ Sized (RemovedXattr time inode (now (name .entry))) ⌝ }
+            (RemovedXattr (record { time = time; inode = inode; name = now (name .entry) })) ⌝ }
+        ensures sized { λ _. ⌜ Sized (RemovedXattr (record { time = time; inode = inode; name = now (name .entry) })) ⌝ }
     {
         let offset = self.offset;
         let body = name.len();
@@ -211,10 +212,10 @@ impl Bookmark {
     // Appends a data block, whose payload has no checks of its own.
     pub fn append_data(self, buf: &mut [u8], time: u64, payload: &[u8]) -> WriteAnswer
         ensures answer { λ r. ⌜ r ≡ appendAnswer (length (now (buf .entry))) self
-            (Data time (now (payload .entry))) ⌝ }
+            (Data (record { time = time; payload = now (payload .entry) })) ⌝ }
         ensures buffer { λ _. ⌜ now (buf .exit) ≡ appendBuffer (now (buf .entry)) self
-            (Data time (now (payload .entry))) ⌝ }
-        ensures sized { λ _. ⌜ Sized (Data time (now (payload .entry))) ⌝ }
+            (Data (record { time = time; payload = now (payload .entry) })) ⌝ }
+        ensures sized { λ _. ⌜ Sized (Data (record { time = time; payload = now (payload .entry) })) ⌝ }
     {
         let offset = self.offset;
         let body = payload.len();
@@ -230,10 +231,10 @@ impl Bookmark {
     // Appends a rename block.
     pub fn append_rename(self, buf: &mut [u8], time: u64, old: &[u8], new: &[u8]) -> WriteAnswer
         ensures answer { λ r. ⌜ r ≡ appendAnswer (length (now (buf .entry))) self
-            (Rename time (now (old .entry)) (now (new .entry))) ⌝ }
+            (Rename (record { time = time; old = now (old .entry); new = now (new .entry) })) ⌝ }
         ensures buffer { λ _. ⌜ now (buf .exit) ≡ appendBuffer (now (buf .entry)) self
-            (Rename time (now (old .entry)) (now (new .entry))) ⌝ }
-        ensures sized { λ _. ⌜ Sized (Rename time (now (old .entry)) (now (new .entry))) ⌝ }
+            (Rename (record { time = time; old = now (old .entry); new = now (new .entry) })) ⌝ }
+        ensures sized { λ _. ⌜ Sized (Rename (record { time = time; old = now (old .entry); new = now (new .entry) })) ⌝ }
     {
         let offset = self.offset;
         let body = old.len() + new.len();
@@ -250,10 +251,10 @@ impl Bookmark {
     // Appends a link table, which has no time, `links` being the bytes of its `count` links.
     pub fn append_table(self, buf: &mut [u8], count: u64, links: &[u8]) -> WriteAnswer
         ensures answer { λ r. ⌜ r ≡ appendAnswer (length (now (buf .entry))) self
-            (Table count (now (links .entry))) ⌝ }
+            (Table (record { count = count; links = now (links .entry) })) ⌝ }
         ensures buffer { λ _. ⌜ now (buf .exit) ≡ appendBuffer (now (buf .entry)) self
-            (Table count (now (links .entry))) ⌝ }
-        ensures sized { λ _. ⌜ Sized (Table count (now (links .entry))) ⌝ }
+            (Table (record { count = count; links = now (links .entry) })) ⌝ }
+        ensures sized { λ _. ⌜ Sized (Table (record { count = count; links = now (links .entry) })) ⌝ }
     {
         let offset = self.offset;
         let body = links.len();

@@ -3,7 +3,8 @@ use mathlib.Core.Path.{_≡_}
 use borrow.Author.Needs.{needs}
 use Rattle.format.specs.Blocks.{inodeBlock, linkBlock, unlinkBlock, xattrBlock, removedXattrBlock, dataBlock, renameBlock, linkTable}
 use Rattle.block.specs.Fields.{kindWith, kindAt}
-use Rattle.block.proofs.Places.{last-kind, block-within, few-links}
+use Rattle.block.proofs.Places.{last-kind}
+use Rattle.block.proofs.Passed.{block-within, few-links}
 use Rattle.block.proofs.decode.Statement.{statement}
 use Rattle.block.proofs.decode.Tie as tie
 

@@ -1,6 +1,6 @@
 -- Both sides of the comparison are what the calls give.
 use borrow.Author.Needs.{needs}
-use Rattle.block.specs.Order.{sumWrong}
+use Rattle.block.specs.Order.{checksumWrong}
 use Rattle.block.proofs.sum_wrong.Statement.{statement}
 use Rattle.block.proofs.sum_wrong.Tie as tie
 
@@ -20,7 +20,7 @@ crc32-requires : tie.Need-crc32-requires
 crc32-requires c κs = search needs
 
 returns : tie.Need-returns
-unfolding sumWrong
+unfolding checksumWrong
 returns c = rw (c .before .before .read-u32 .ensures, c .crc32 .ensures)
 
 pub sum-wrong-spec : {M : Type 1} → statement M

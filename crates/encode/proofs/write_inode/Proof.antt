@@ -9,6 +9,7 @@ use borrow.Author.Needs.{needs}
 use Rattle.number.specs.Number.{put}
 use Rattle.number.proofs.Digits.{length-leBytes}
 use Rattle.format.specs.Layout.{laid, sealed}
+use Rattle.format.specs.Blocks.{image}
 use Rattle.encode.proofs.Writes.{last, _then_}
 use Rattle.encode.proofs.Images.{block-written}
 use Rattle.encode.proofs.write_inode.Statement.{statement}
@@ -63,7 +64,7 @@ same-length : tie.Need-same-length
 same-length c = search needs
 
 returns : tie.Need-returns
-unfolding laid
+unfolding laid image
 returns c =
     let checksum = c .before .before in
     let tail = checksum .before .before .before .before in

@@ -3,6 +3,7 @@ use native.Mathlib.Omega.{arith}
 use lib.ListN.{length-append}
 use lib.Dec.{lit<}
 use borrow.Author.Needs.{needs}
+use Rattle.format.specs.Blocks.{image}
 use Rattle.encode.proofs.Writes.{last, _then_}
 use Rattle.encode.proofs.Images.{block-written}
 use Rattle.encode.proofs.write_rename.Statement.{statement}
@@ -54,6 +55,7 @@ same-length : tie.Need-same-length
 same-length c = search needs
 
 returns : tie.Need-returns
+unfolding image
 returns c =
     let checksum = c .before .before in
     let rest = checksum .before .before .before .before in

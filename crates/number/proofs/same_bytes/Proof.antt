@@ -5,7 +5,7 @@ use mathlib.Core.Bool.{true, false}
 use native.Mathlib.Omega.{arith}
 use borrow.Author.Tests.{eq-eqb, ne-eqb}
 use lib.ListN.{length, drop}
-use Rattle.number.specs.Same.{sameBytes}
+use Rattle.number.specs.inner.Same.{sameBytes}
 use Rattle.number.proofs.Same.{same-lengths, same-step, same-end}
 use borrow.Author.Needs.{needs}
 use Rattle.number.proofs.same_bytes.Statement.{statement}

@@ -1,16 +1,16 @@
--- The first two tests are the two sides of the check of 9, and the other two those of the check of 10. The arguments are sized
--- by their types.
+-- The tests are the checks in their order. The arguments are sized by their types.
 use native.Mathlib.Omega.{arith}
 use borrow.Author.Needs.{needs}
 use Rattle.number.proofs.Digits.{bytes-append}
-use Rattle.checks.proofs.Laws.{decided, either-side}
+use Rattle.checks.proofs.Laws.{decided}
 use Rattle.checks.proofs.Tests.{walks}
-use Rattle.request.specs.Requests.{Rename}
+use Rattle.format.specs.Blocks.{Rename}
 use Rattle.request.specs.Asking.{Sized}
 use Rattle.request.proofs.rename_fault.Statement.{statement}
 use Rattle.request.proofs.rename_fault.Tie as tie
 
-sized : (c : tie.After-shared-slice-known2) → let a = c .before .before .args in Sized (Rename (a .time) (a .old .now) (a .new .now))
+sized : (c : tie.After-shared-slice-known2) → let a = c .before .before .args in
+    Sized (Rename (record { time = a .time; old = a .old .now; new = a .new .now }))
 sized c =
     let a = c .before .before .args in
     record {
@@ -20,25 +20,25 @@ sized c =
     }
 
 returns : tie.Need-returns
-returns c = (decided (search (walks, either-side) depth 12), sized (c .before))
+returns c = (decided (search walks depth 12), sized (c .before))
 
 returns-2 : tie.Need-returns-2
-returns-2 c = (decided (search (walks, either-side) depth 12), sized (c .before .before))
+returns-2 c = (decided (search walks depth 12), sized (c .before .before))
 
 is-text-requires : tie.Need-is-text-requires
 is-text-requires c κs = search needs
 
 returns-3 : tie.Need-returns-3
-returns-3 c = (decided (search (walks, either-side) depth 12), sized (c .before .before .before .before))
+returns-3 c = (decided (search walks depth 12), sized (c .before .before .before .before))
 
 is-text-requires-2 : tie.Need-is-text-requires-2
 is-text-requires-2 c κs = search needs
 
 returns-4 : tie.Need-returns-4
-returns-4 c = (decided (search (walks, either-side) depth 12), sized (c .before .before .before .before .before .before))
+returns-4 c = (decided (search walks depth 12), sized (c .before .before .before .before .before .before))
 
 returns-5 : tie.Need-returns-5
-returns-5 c = (decided (search (walks, either-side) depth 12), sized (c .before .before .before .before .before .before))
+returns-5 c = (decided (search walks depth 12), sized (c .before .before .before .before .before .before))
 
 pub rename-fault-spec : {M : Type 1} → statement M
 rename-fault-spec =

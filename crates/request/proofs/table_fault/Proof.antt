@@ -5,12 +5,12 @@ use borrow.Author.Needs.{needs}
 use Rattle.checks.proofs.Laws.{decided}
 use Rattle.checks.proofs.Tests.{walks}
 use Rattle.links.proofs.Starts.{start-bound}
-use Rattle.request.specs.Requests.{Table}
+use Rattle.format.specs.Blocks.{Table}
 use Rattle.request.specs.Asking.{Sized}
 use Rattle.request.proofs.table_fault.Statement.{statement}
 use Rattle.request.proofs.table_fault.Tie as tie
 
-sized : (c : tie.After-shared-slice-known) → let a = c .before .args in Sized (Table (a .count) (a .links .now))
+sized : (c : tie.After-shared-slice-known) → let a = c .before .args in Sized (Table (record { count = a .count; links = a .links .now }))
 sized c = record { fit = omega arith; bytes = λ i. c .shared-slice-known .given i .fits }
 
 returns : tie.Need-returns

@@ -4,14 +4,13 @@ use borrow.Author.Needs.{needs}
 use Rattle.number.proofs.Digits.{bytes-append}
 use Rattle.checks.proofs.Laws.{decided}
 use Rattle.checks.proofs.Tests.{walks}
-use Rattle.request.specs.Requests.{Xattr}
+use Rattle.format.specs.Blocks.{Xattr}
 use Rattle.request.specs.Asking.{Sized}
-use Rattle.request.proofs.Orders.{xattr-order}
 use Rattle.request.proofs.xattr_fault.Statement.{statement}
 use Rattle.request.proofs.xattr_fault.Tie as tie
 
 sized : (c : tie.After-shared-slice-known2) → let a = c .before .before .args in
-    Sized (Xattr (a .time) (a .inode) (a .name .now) (a .value .now))
+    Sized (Xattr (record { time = a .time; inode = a .inode; name = a .name .now; value = a .value .now }))
 sized c =
     let a = c .before .before .args in
     record {
@@ -21,17 +20,13 @@ sized c =
     }
 
 returns : tie.Need-returns
-returns c =
-    let a = c .before .before .before .args in
-    (rw (xattr-order (a .time) (a .inode)) (decided (search walks)), sized (c .before))
+returns c = (decided (search walks), sized (c .before))
 
 name-fault-requires : tie.Need-name-fault-requires
 name-fault-requires c κs = search needs
 
 returns-2 : tie.Need-returns-2
-returns-2 c =
-    let a = c .before .before .before .before .args in
-    (rw (xattr-order (a .time) (a .inode)) (decided (search walks)), sized (c .before .before))
+returns-2 c = (decided (search walks), sized (c .before .before))
 
 pub xattr-fault-spec : {M : Type 1} → statement M
 xattr-fault-spec = tie.close (tie.spec returns name-fault-requires returns-2)

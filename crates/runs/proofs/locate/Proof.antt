@@ -11,7 +11,8 @@ use Rattle.checks.proofs.First.{first-zero, first-more, first-hit}
 use Rattle.format.specs.declared.Extent.{Extent}
 use Rattle.extent.specs.Extents.{extentAt, extentCount}
 use Rattle.extent.proofs.Sound.{each-sound}
-use Rattle.runs.specs.Positions.{keeps, storedAt, keeper}
+use Rattle.runs.specs.Positions.{keeps, keeper}
+use Rattle.runs.specs.inner.Stored.{storedAt}
 use Rattle.runs.proofs.Keeper.{place-hole, place-is}
 use Rattle.runs.proofs.locate.Statement.{statement}
 use Rattle.runs.proofs.locate.Tie as tie

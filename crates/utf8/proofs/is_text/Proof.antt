@@ -1,6 +1,6 @@
 -- The text is well-formed exactly if the length of its longest well-formed beginning is its own.
 use borrow.Author.Needs.{needs}
-use Rattle.utf8.specs.Length.{isText}
+use Rattle.utf8.specs.inner.Length.{isText}
 use Rattle.utf8.proofs.is_text.Statement.{statement}
 use Rattle.utf8.proofs.is_text.Tie as tie
 

@@ -7,7 +7,7 @@ use native.Mathlib.Omega.{arith}
 use lib.ListN.{length, drop}
 use borrow.Author.Needs.{needs}
 use borrow.Author.Tests.{not-true, not-false}
-use Rattle.utf8.specs.Length.{charLength, wellFormedLength}
+use Rattle.utf8.specs.inner.Length.{charLength, wellFormedLength}
 use Rattle.utf8.proofs.Reading.{Reached, reached-start, reached-run, reached-char, reached-stop, reached-end}
 use Rattle.utf8.proofs.well_formed_len.Statement.{statement}
 use Rattle.utf8.proofs.well_formed_len.Tie as tie

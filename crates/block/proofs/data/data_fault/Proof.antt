@@ -2,8 +2,9 @@
 use borrow.Author.Needs.{needs}
 use Rattle.checks.proofs.Laws.{decided}
 use Rattle.checks.proofs.Tests.{walks}
+use Rattle.format.specs.Blocks.{dataBlock}
 use Rattle.block.specs.Fields.{bodyLength}
-use Rattle.block.proofs.Faults.{data-answered}
+use Rattle.block.proofs.Faults.{fields-there}
 use Rattle.block.proofs.data.data_fault.Statement.{statement}
 use Rattle.block.proofs.data.data_fault.Tie as tie
 
@@ -26,9 +27,11 @@ returns-2 : tie.Need-returns-2
 unfolding bodyLength
 returns-2 c =
     let a = c .before .before .before .before .args in
-    data-answered
+    fields-there
+    dataBlock
     (a .volume .now)
     (a .offset)
+    _
     (c .before .before .if1 .left)
     (rw (← c .before .read-u64 .ensures) (c .sealed-fault .ensures))
 

@@ -1,6 +1,5 @@
 -- Each field is what its reading gives, and the payload begins after the fixed fields.
 use native.Mathlib.Omega.{arith}
-use native.Mathlib.Nat.{add-zero}
 use borrow.Author.Needs.{needs}
 use Rattle.block.specs.Fields.{bodyLength}
 use Rattle.block.specs.Shown.{blockOf}
@@ -35,7 +34,7 @@ add-t10 c = omega arith
 
 returns : tie.Need-returns
 unfolding blockOf bodyLength
-returns c = rw (add-zero, c .before .read-u64 .ensures, c .read-u642 .ensures)
+returns c = rw (c .before .read-u64 .ensures, c .read-u642 .ensures)
 
 pub decode-data-spec : {M : Type 1} → statement M
 decode-data-spec =

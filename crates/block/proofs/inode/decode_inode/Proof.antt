@@ -1,6 +1,5 @@
 -- Each field is what its reading gives, and the n bytes begin after the fixed fields.
 use native.Mathlib.Omega.{arith}
-use native.Mathlib.Nat.{add-zero}
 use borrow.Author.Needs.{needs}
 use Rattle.block.specs.Fields.{bodyLength}
 use Rattle.block.specs.Shown.{blockOf}
@@ -91,7 +90,6 @@ returns : tie.Need-returns
 unfolding blockOf bodyLength
 returns c =
     rw (
-      add-zero,
       c .before .before .before .before .before .before .before .before .before .before .read-u64 .ensures,
       c .before .before .before .before .before .before .before .before .before .read-u642 .ensures,
       c .before .before .before .before .before .before .before .before .read-u643 .ensures,

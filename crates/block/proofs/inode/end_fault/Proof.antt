@@ -1,23 +1,20 @@
 -- The end's fault comes first; without one the n bytes lie within the volume and decide.
 use Prim.Native.Nat.{_≤_, _+_}
+use mathlib.Core.List.{[]}
 use native.Mathlib.Omega.{arith}
 use lib.ListN.{length}
-use borrow.Author.Tests.{ltb-false}
 use borrow.Author.Needs.{needs}
-use Rattle.number.proofs.Parts.{span-length}
-use Rattle.checks.proofs.Laws.{stopped, continued, passed-told}
-use Rattle.format.specs.Blocks.{fileType}
-use Rattle.block.specs.Parts.{sealedOrder}
-use Rattle.block.proofs.Faults.{rest-told}
+use Rattle.checks.proofs.Laws.{stopped, continued}
+use Rattle.number.proofs.Parts.{part-span, span-length}
+use Rattle.block.specs.inner.Parts.{sealedOrder}
+use Rattle.block.proofs.Passed.{end-whole}
 use Rattle.block.proofs.inode.end_fault.Statement.{statement}
 use Rattle.block.proofs.inode.end_fault.Tie as tie
 
 whole : (c : tie.Else1) → let a = c .before .before .before .args in a .from + a .n + 4 ≤ length (a .volume .now)
 whole c =
     let a = c .before .before .before .args in
-    ltb-false _ _
-    (passed-told 0 (sealedOrder (a .volume .now) (a .offset) (a .from + a .n)) tt
-    (c .before .sealed-fault .ensures) (c .if1 .left))
+    end-whole (a .volume .now) (a .offset) (a .from + a .n) [] tt (c .before .sealed-fault .ensures) (c .if1 .left)
 
 sealed-fault-requires : tie.Need-sealed-fault-requires
 sealed-fault-requires c κs = search needs
@@ -53,8 +50,7 @@ returns-2 c =
     tt
     (c .before .before .before .sealed-fault .ensures)
     (c .before .before .if1 .left)
-    (rest-told (a .volume .now) (a .from) (a .n) (fileType (a .mode)) (a .size)
-    (omega (arith, whole (c .before .before))) (c .rest-fault .ensures))
+    (rw part-span at (c .rest-fault .ensures))
 
 pub end-fault-spec : {M : Type 1} → statement M
 end-fault-spec =

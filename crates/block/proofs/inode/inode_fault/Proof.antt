@@ -4,7 +4,8 @@ use Rattle.checks.specs.Checks.{hit, miss}
 use Rattle.checks.proofs.Laws.{decided, rest}
 use Rattle.checks.proofs.Tests.{told, walks}
 use Rattle.block.specs.Fields.{bodyLength}
-use Rattle.block.proofs.Faults.{inode-answered}
+use Rattle.format.specs.Blocks.{inodeBlock}
+use Rattle.block.proofs.Faults.{fields-there}
 use Rattle.block.proofs.inode.inode_fault.Statement.{statement}
 use Rattle.block.proofs.inode.inode_fault.Tie as tie
 
@@ -39,9 +40,11 @@ returns-2 : tie.Need-returns-2
 unfolding bodyLength
 returns-2 c =
     let a = c .before .before .before .before .before .before .before .args in
-    inode-answered
+    fields-there
+    inodeBlock
     (a .volume .now)
     (a .offset)
+    _
     (c .before .before .before .before .before .if1 .left)
     (rw (← c .before .before .before .before .read-u16 .ensures, ← c .before .before .read-u642 .ensures)
     (decided (hit (told (c .before .is-too-long .ensures) (c .if2 .taken)))))
@@ -53,9 +56,11 @@ returns-3 : tie.Need-returns-3
 unfolding bodyLength
 returns-3 c =
     let a = c .before .before .before .before .before .before .before .before .args in
-    inode-answered
+    fields-there
+    inodeBlock
     (a .volume .now)
     (a .offset)
+    _
     (c .before .before .before .before .before .before .if1 .left)
     (rw (
       ← c .before .before .before .before .before .read-u16 .ensures,

@@ -1,5 +1,4 @@
 -- The name begins after the fixed fields and is as long as its field says.
-use native.Mathlib.Nat.{add-zero}
 use borrow.Author.Needs.{needs}
 use Rattle.block.specs.Fields.{bodyLength}
 use Rattle.block.specs.Shown.{blockOf}
@@ -16,7 +15,7 @@ cast-n : tie.Need-cast-n
 cast-n c = search needs
 
 fields-requires : tie.Need-fields-requires
-fields-requires c κs = search needs
+fields-requires c κs = (search needs, c .read-u16 .ensures)
 
 add-t5 : tie.Need-add-t5
 add-t5 c = search needs
@@ -29,7 +28,7 @@ add-t9 c = search needs
 
 returns : tie.Need-returns
 unfolding blockOf bodyLength
-returns c = rw (add-zero, c .fields .ensures, c .before .read-u16 .ensures)
+returns c = rw (c .fields .ensures, c .before .read-u16 .ensures)
 
 pub decode-unlink-spec : {M : Type 1} → statement M
 decode-unlink-spec =

@@ -1,4 +1,4 @@
--- Each field is what its reading gives.
+-- Each field is what its reading gives, and the name is as long as is required.
 use borrow.Author.Needs.{needs}
 use Rattle.block.proofs.link.fields.Statement.{statement}
 use Rattle.block.proofs.link.fields.Tie as tie
@@ -25,7 +25,8 @@ add-t10 : tie.Need-add-t10
 add-t10 c = search needs
 
 returns : tie.Need-returns
-returns c = rw (c .before .before .read-u64 .ensures, c .before .read-u642 .ensures, c .read-u643 .ensures)
+returns c =
+    rw (c .before .before .read-u64 .ensures, c .before .read-u642 .ensures, c .read-u643 .ensures, c .before .before .before .before .pre .1)
 
 pub fields-spec : {M : Type 1} → statement M
 fields-spec =

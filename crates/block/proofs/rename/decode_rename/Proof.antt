@@ -1,5 +1,4 @@
 -- Each field is what its reading gives; the old path begins after the fixed fields and the new one after it.
-use native.Mathlib.Nat.{add-zero}
 use borrow.Author.Needs.{needs}
 use Rattle.block.specs.Fields.{bodyLength}
 use Rattle.block.specs.Shown.{blockOf}
@@ -53,7 +52,7 @@ add-t11-2 c = search needs
 
 returns : tie.Need-returns
 unfolding blockOf bodyLength
-returns c = rw (add-zero, c .before .before .read-u16 .ensures, c .before .read-u162 .ensures, c .read-u64 .ensures)
+returns c = rw (c .before .before .read-u16 .ensures, c .before .read-u162 .ensures, c .read-u64 .ensures)
 
 pub decode-rename-spec : {M : Type 1} → statement M
 decode-rename-spec =

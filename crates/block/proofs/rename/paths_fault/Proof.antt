@@ -3,19 +3,17 @@ use Prim.Native.Nat.{_≤_, _+_}
 use native.Mathlib.Omega.{arith}
 use lib.ListN.{length}
 use borrow.Author.Needs.{needs}
-use borrow.Author.Tests.{ltb-false}
-use Rattle.checks.proofs.Laws.{stopped, passed-told}
-use Rattle.block.specs.Parts.{textOrder}
+use Rattle.checks.proofs.Laws.{stopped}
+use Rattle.block.specs.inner.Parts.{textOrder}
 use Rattle.block.proofs.Faults.{text-next}
+use Rattle.block.proofs.Passed.{end-whole}
 use Rattle.block.proofs.rename.paths_fault.Statement.{statement}
 use Rattle.block.proofs.rename.paths_fault.Tie as tie
 
 whole : (c : tie.Else1) → let a = c .before .before .before .args in a .from + (a .n + a .m) + 4 ≤ length (a .volume .now)
 whole c =
     let a = c .before .before .before .args in
-    ltb-false _ _
-    (passed-told 0 (textOrder (a .volume .now) (a .offset) (a .from) (a .n) (a .n + a .m)) tt
-    (c .before .text-fault .ensures) (c .if1 .left))
+    end-whole (a .volume .now) (a .offset) (a .from + (a .n + a .m)) _ tt (c .before .text-fault .ensures) (c .if1 .left)
 
 add-text-fault : tie.Need-add-text-fault
 add-text-fault c = search needs

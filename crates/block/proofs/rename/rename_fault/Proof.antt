@@ -2,7 +2,9 @@
 use borrow.Author.Needs.{needs}
 use Rattle.checks.proofs.Laws.{decided}
 use Rattle.checks.proofs.Tests.{walks}
-use Rattle.block.proofs.Faults.{rename-answered}
+use Rattle.format.specs.Blocks.{renameBlock}
+use Rattle.block.specs.Fields.{bodyLength}
+use Rattle.block.proofs.Faults.{fields-there}
 use Rattle.block.proofs.rename.rename_fault.Statement.{statement}
 use Rattle.block.proofs.rename.rename_fault.Tie as tie
 
@@ -34,11 +36,14 @@ paths-fault-requires : tie.Need-paths-fault-requires
 paths-fault-requires c κs = search needs
 
 returns-2 : tie.Need-returns-2
+unfolding bodyLength
 returns-2 c =
     let a = c .before .before .before .before .before .args in
-    rename-answered
+    fields-there
+    renameBlock
     (a .volume .now)
     (a .offset)
+    _
     (c .before .before .before .if1 .left)
     (rw (← c .before .before .read-u16 .ensures, ← c .before .read-u162 .ensures) (c .paths-fault .ensures))
 

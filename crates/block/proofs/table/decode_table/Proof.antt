@@ -1,5 +1,4 @@
 -- The links begin after the fixed fields and reach as far as their own lengths say.
-use native.Mathlib.Nat.{add-zero}
 use native.Mathlib.Omega.{arith}
 use borrow.Author.Needs.{needs}
 use Rattle.block.specs.Fields.{bodyLength}
@@ -29,7 +28,7 @@ add-t10 c = omega (arith, rw (c .before .read-u64 .ensures) at (c .len-of-links 
 
 returns : tie.Need-returns
 unfolding blockOf bodyLength
-returns c = rw (add-zero, c .len-of-links .ensures, c .before .read-u64 .ensures)
+returns c = rw (c .len-of-links .ensures, c .before .read-u64 .ensures)
 
 pub decode-table-spec : {M : Type 1} → statement M
 decode-table-spec =

@@ -1,12 +1,13 @@
 -- The end's fault comes first; without one the links lie within the volume and decide.
 use Prim.Native.Nat.{_≤_, _+_}
+use mathlib.Core.List.{[]}
 use native.Mathlib.Omega.{arith}
 use lib.ListN.{length, length-drop}
-use borrow.Author.Tests.{ltb-false}
 use borrow.Author.Needs.{needs}
+use Rattle.checks.proofs.Laws.{stopped, continued}
 use Rattle.number.proofs.Parts.{part-onward}
-use Rattle.checks.proofs.Laws.{stopped, continued, passed-told}
-use Rattle.block.specs.Parts.{sealedOrder}
+use Rattle.block.specs.inner.Parts.{sealedOrder}
+use Rattle.block.proofs.Passed.{end-whole}
 use Rattle.block.proofs.table.end_fault.Statement.{statement}
 use Rattle.block.proofs.table.end_fault.Tie as tie
 
@@ -14,9 +15,8 @@ whole : (c : tie.Else1) → let a = c .before .before .before .before .args in
     a .from + c .before .before .len-of-links .result + 4 ≤ length (a .volume .now)
 whole c =
     let a = c .before .before .before .before .args in
-    ltb-false _ _
-    (passed-told 0 (sealedOrder (a .volume .now) (a .offset) (a .from + c .before .before .len-of-links .result)) tt
-    (c .before .sealed-fault .ensures) (c .if1 .left))
+    end-whole (a .volume .now) (a .offset) (a .from + c .before .before .len-of-links .result) [] tt
+    (c .before .sealed-fault .ensures) (c .if1 .left)
 
 len-of-links-requires : tie.Need-len-of-links-requires
 len-of-links-requires c κs = search needs

@@ -4,7 +4,9 @@ use borrow.Author.Needs.{needs}
 use Rattle.checks.specs.Checks.{hit, miss}
 use Rattle.checks.proofs.Laws.{decided, rest}
 use Rattle.checks.proofs.Tests.{walks}
-use Rattle.block.proofs.Faults.{table-answered}
+use Rattle.format.specs.Blocks.{linkTable}
+use Rattle.block.specs.Fields.{bodyLength}
+use Rattle.block.proofs.Faults.{fields-there}
 use Rattle.block.proofs.table.table_fault.Statement.{statement}
 use Rattle.block.proofs.table.table_fault.Tie as tie
 
@@ -21,11 +23,14 @@ read-u64-requires : tie.Need-read-u64-requires
 read-u64-requires c κs = search needs
 
 returns-2 : tie.Need-returns-2
+unfolding bodyLength
 returns-2 c =
     let a = c .before .before .before .before .args in
-    table-answered
+    fields-there
+    linkTable
     (a .volume .now)
     (a .offset)
+    _
     (c .before .before .if1 .left)
     (rw (← c .before .read-u64 .ensures) (decided (hit (lt-ltb _ _ (c .if2 .taken)))))
 
@@ -33,11 +38,14 @@ end-fault-requires : tie.Need-end-fault-requires
 end-fault-requires c κs = search needs
 
 returns-3 : tie.Need-returns-3
+unfolding bodyLength
 returns-3 c =
     let a = c .before .before .before .before .before .args in
-    table-answered
+    fields-there
+    linkTable
     (a .volume .now)
     (a .offset)
+    _
     (c .before .before .before .if1 .left)
     (rw (← c .before .before .read-u64 .ensures) (decided (miss (le-ltb _ _ (c .before .if2 .left)) (rest (c .end-fault .ensures)))))
 

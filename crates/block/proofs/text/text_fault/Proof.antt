@@ -1,21 +1,20 @@
 -- The end's fault comes first; without one the text lies within the volume and decides.
 use Prim.Native.Nat.{_≤_, _+_}
+use mathlib.Core.List.{[]}
 use native.Mathlib.Omega.{arith}
 use lib.ListN.{length}
 use borrow.Author.Needs.{needs}
-use borrow.Author.Tests.{ltb-false}
-use Rattle.checks.proofs.Laws.{stopped, passed-told}
-use Rattle.block.specs.Parts.{sealedOrder}
+use Rattle.checks.proofs.Laws.{stopped}
+use Rattle.block.specs.inner.Parts.{sealedOrder}
 use Rattle.block.proofs.Faults.{text-next}
+use Rattle.block.proofs.Passed.{end-whole}
 use Rattle.block.proofs.text.text_fault.Statement.{statement}
 use Rattle.block.proofs.text.text_fault.Tie as tie
 
 whole : (c : tie.Else1) → let a = c .before .before .before .args in a .from + a .len + 4 ≤ length (a .volume .now)
 whole c =
     let a = c .before .before .before .args in
-    ltb-false _ _
-    (passed-told 0 (sealedOrder (a .volume .now) (a .offset) (a .from + a .len)) tt
-    (c .before .sealed-fault .ensures) (c .if1 .left))
+    end-whole (a .volume .now) (a .offset) (a .from + a .len) [] tt (c .before .sealed-fault .ensures) (c .if1 .left)
 
 sealed-fault-requires : tie.Need-sealed-fault-requires
 sealed-fault-requires c κs = search needs

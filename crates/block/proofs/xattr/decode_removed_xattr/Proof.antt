@@ -1,5 +1,4 @@
 -- Each field is what its reading gives, and the name begins after the fixed fields.
-use native.Mathlib.Nat.{add-zero}
 use borrow.Author.Needs.{needs}
 use Rattle.block.specs.Fields.{bodyLength}
 use Rattle.block.specs.Shown.{blockOf}
@@ -41,7 +40,7 @@ add-t10-2 c = search needs
 
 returns : tie.Need-returns
 unfolding blockOf bodyLength
-returns c = rw (add-zero, c .before .before .read-u8 .ensures, c .before .read-u64 .ensures, c .read-u642 .ensures)
+returns c = rw (c .before .before .read-u8 .ensures, c .before .read-u64 .ensures, c .read-u642 .ensures)
 
 pub decode-removed-xattr-spec : {M : Type 1} → statement M
 decode-removed-xattr-spec =

@@ -1,5 +1,4 @@
 -- Each field is what its reading gives; the name begins after the fixed fields and the value after the name.
-use native.Mathlib.Nat.{add-zero}
 use borrow.Author.Needs.{needs}
 use Rattle.block.specs.Fields.{bodyLength}
 use Rattle.block.specs.Shown.{blockOf}
@@ -61,7 +60,6 @@ returns : tie.Need-returns
 unfolding blockOf bodyLength
 returns c =
     rw (
-      add-zero,
       c .before .before .before .read-u8 .ensures,
       c .before .before .read-u16 .ensures,
       c .before .read-u64 .ensures,

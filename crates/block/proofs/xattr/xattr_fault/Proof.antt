@@ -2,8 +2,9 @@
 use borrow.Author.Needs.{needs}
 use Rattle.checks.proofs.Laws.{decided}
 use Rattle.checks.proofs.Tests.{walks}
+use Rattle.format.specs.Blocks.{xattrBlock}
 use Rattle.block.specs.Fields.{bodyLength}
-use Rattle.block.proofs.Faults.{xattr, named-answered}
+use Rattle.block.proofs.Faults.{fields-there}
 use Rattle.block.proofs.xattr.xattr_fault.Statement.{statement}
 use Rattle.block.proofs.xattr.xattr_fault.Tie as tie
 
@@ -41,10 +42,11 @@ returns-2 : tie.Need-returns-2
 unfolding bodyLength
 returns-2 c =
     let a = c .before .before .before .before .before .args in
-    named-answered
+    fields-there
+    xattrBlock
     (a .volume .now)
     (a .offset)
-    xattr
+    _
     (c .before .before .before .if1 .left)
     (rw (← c .before .before .read-u8 .ensures, ← c .before .read-u16 .ensures) (c .text-fault .ensures))
 

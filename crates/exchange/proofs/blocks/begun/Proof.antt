@@ -12,13 +12,10 @@ timed-number-requires c κs = search needs
 time-number-requires : tie.Need-time-number-requires
 time-number-requires c κs = search needs
 
-plain-requires : tie.Need-plain-requires
-plain-requires c κs = search needs
-
 returns : tie.Need-returns
 returns c =
     let t = c .before in
-    rw (c .plain .ensures, t .time-number .ensures, t .before .timed-number .ensures, t .before .before .flag-number .ensures)
+    rw (c .time-number .ensures, t .timed-number .ensures, t .before .flag-number .ensures)
 
 pub begun-spec : {M : Type 1} → statement M
 begun-spec =
@@ -27,5 +24,4 @@ begun-spec =
     flag-number-requires
     timed-number-requires
     time-number-requires
-    plain-requires
     returns)

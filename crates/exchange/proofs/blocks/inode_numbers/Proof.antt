@@ -1,6 +1,7 @@
 -- The numbers that every kind has are begun with, and the others are stored one by one.
 use borrow.Author.Needs.{needs}
-use Rattle.exchange.specs.Walking.{foundNumbers}
+use Rattle.block.specs.Shown.{shown}
+use Rattle.exchange.specs.Blocks.{foundNumbers}
 use Rattle.exchange.proofs.blocks.inode_numbers.Statement.{statement}
 use Rattle.exchange.proofs.blocks.inode_numbers.Tie as tie
 
@@ -17,7 +18,7 @@ cast-numbers-3 : tie.Need-cast-numbers-3
 cast-numbers-3 c = search needs
 
 returns : tie.Need-returns
-unfolding foundNumbers
+unfolding foundNumbers shown
 returns c = rw (c .before .before .before .before .begun .ensures)
 
 pub inode-numbers-spec : {M : Type 1} → statement M

@@ -5,7 +5,8 @@ use mathlib.Core.List.{List}
 use native.Mathlib.Nat.{add-comm}
 use borrow.Author.Tests.{ne-eqb}
 use Rattle.number.specs.Address.{Address}
-use Rattle.lookup.specs.Fetch.{fetchFault, fetchPart, fetchAddress}
+use Rattle.lookup.specs.Fetch.{fetchFault}
+use Rattle.lookup.specs.inner.Part.{fetchPart, fetchAddress}
 use Rattle.lookup.proofs.Fetch.{Held, held-in-first, held-in-second}
 use borrow.Author.Needs.{needs}
 use Rattle.lookup.proofs.bytes.fetch.Statement.{statement}

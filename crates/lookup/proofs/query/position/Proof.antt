@@ -5,7 +5,7 @@ use denote.Ref.{now}
 use borrow.Author.Needs.{needs}
 use borrow.Author.Tests.{leb-true, leb-false}
 use Rattle.checks.proofs.Tests.{told}
-use Rattle.lookup.specs.Lookup.{positionAnswer}
+use Rattle.lookup.specs.inner.Answers.{positionAnswer}
 use Rattle.lookup.proofs.Clear.{RegularFile, a-lookup-without-a-fault-is-clear}
 use Rattle.lookup.proofs.Answers.{placed, position-refused, position-past-end, position-placed}
 use Rattle.lookup.proofs.query.position.Statement.{statement}

@@ -4,7 +4,7 @@ use native.Mathlib.Omega.{arith}
 use denote.Ref.{now}
 use lib.ListN.{length}
 use borrow.Author.Needs.{needs}
-use Rattle.lookup.specs.Lookup.{runsAnswer, runsRoom}
+use Rattle.lookup.specs.inner.Answers.{runsAnswer, runsRoom}
 use Rattle.lookup.proofs.Clear.{RegularFile, a-lookup-without-a-fault-is-clear}
 use Rattle.lookup.proofs.Answers.{numbered, runs-refused, room-kept, runs-numbered, room-filled}
 use Rattle.lookup.proofs.query.runs.Statement.{statement}

@@ -1,11 +1,12 @@
--- The checks decide, by the laws that hold for every request; without a fault the image is written and the bookmark goes on.
-use mathlib.Core.Path.{refl, sym}
+-- The checks decide, by the laws that hold for every block; without a fault the image is written and the bookmark goes on.
+use mathlib.Core.Path.{_≡_, refl}
+use mathlib.Core.List.{[]}
 use native.Mathlib.Omega.{arith}
 use lib.ListN.{length}
 use borrow.Author.Needs.{needs}
-use Rattle.request.specs.Requests.{Data}
+use Rattle.format.specs.Blocks.{Data}
 use Rattle.request.specs.Asking.{Sized}
-use Rattle.request.proofs.Orders.{data-order}
+use Rattle.checks.specs.Checks.{firstFault}
 use Rattle.volume.proofs.Writers.{Told, told, room-left, refused, accepted}
 use Rattle.volume.proofs.Bookmark.append_data.Statement.{statement}
 use Rattle.volume.proofs.Bookmark.append_data.Tie as tie
@@ -13,15 +14,20 @@ use Rattle.volume.proofs.Bookmark.append_data.Tie as tie
 append-fault-requires : tie.Need-append-fault-requires
 append-fault-requires c κs = search needs
 
--- what was told of this request
+-- a payload has no checks
+data-clear : 0 ≡ firstFault []
+unfolding firstFault
+data-clear = refl
+
+-- what was told of this block
 here : (c : tie.After-append-fault) → let a = c .before .before .before .args in
-    Told (a .buf .now) (a .self) (Data (a .time) (a .payload .now)) (length (a .payload .now)) (c .append-fault .result)
+    Told (a .buf .now) (a .self) (Data (record { time = a .time; payload = a .payload .now })) (length (a .payload .now)) (c .append-fault .result)
 here c =
     let a = c .before .before .before .args in
-    let sized : Sized (Data (a .time) (a .payload .now))
+    let sized : Sized (Data (record { time = a .time; payload = a .payload .now }))
     = record { fit = omega arith; bytes = λ i. c .before .shared-slice-known .given i .fits } in
-    told (a .buf .now) (a .self) (Data (a .time) (a .payload .now))
-    (sym (data-order (a .time) (a .payload .now)), sized) refl (c .append-fault .ensures)
+    told (a .buf .now) (a .self) (Data (record { time = a .time; payload = a .payload .now }))
+    (data-clear, sized) refl (c .append-fault .ensures)
 
 refuse-requires : tie.Need-refuse-requires
 refuse-requires c κs = search needs

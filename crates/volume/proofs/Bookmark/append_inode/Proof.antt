@@ -1,9 +1,9 @@
--- The checks decide, by the laws that hold for every request; without a fault the image is written and the bookmark goes on.
+-- The checks decide, by the laws that hold for every block; without a fault the image is written and the bookmark goes on.
 use mathlib.Core.Path.{refl}
 use native.Mathlib.Omega.{arith}
 use lib.ListN.{length}
 use borrow.Author.Needs.{needs}
-use Rattle.request.specs.Requests.{Inode}
+use Rattle.format.specs.Blocks.{Inode}
 use Rattle.volume.proofs.Writers.{Told, told, room-left, refused, accepted}
 use Rattle.volume.proofs.Bookmark.append_inode.Statement.{statement}
 use Rattle.volume.proofs.Bookmark.append_inode.Tie as tie
@@ -14,12 +14,12 @@ inode-fault-requires c κs = search needs
 append-fault-requires : tie.Need-append-fault-requires
 append-fault-requires c κs = search needs
 
--- what was told of this request
+-- what was told of this block
 here : (c : tie.After-append-fault) → let a = c .before .before .before .before .args in
-    Told (a .buf .now) (a .self) (Inode (a .inode) (a .time) (a .mode) (a .uid) (a .gid) (a .atime) (a .mtime) (a .ctime) (a .btime) (a .size) (a .rest .now)) (length (a .rest .now)) (c .append-fault .result)
+    Told (a .buf .now) (a .self) (Inode (record { inode = a .inode; time = a .time; mode = a .mode; uid = a .uid; gid = a .gid; atime = a .atime; mtime = a .mtime; ctime = a .ctime; btime = a .btime; size = a .size; rest = a .rest .now })) (length (a .rest .now)) (c .append-fault .result)
 here c =
     let a = c .before .before .before .before .args in
-    told (a .buf .now) (a .self) (Inode (a .inode) (a .time) (a .mode) (a .uid) (a .gid) (a .atime) (a .mtime) (a .ctime) (a .btime) (a .size) (a .rest .now))
+    told (a .buf .now) (a .self) (Inode (record { inode = a .inode; time = a .time; mode = a .mode; uid = a .uid; gid = a .gid; atime = a .atime; mtime = a .mtime; ctime = a .ctime; btime = a .btime; size = a .size; rest = a .rest .now }))
     (c .before .inode-fault .ensures) refl (c .append-fault .ensures)
 
 refuse-requires : tie.Need-refuse-requires

@@ -1,11 +1,11 @@
--- The checks decide, by the laws that hold for every request; without a fault the image is written and the bookmark goes on.
+-- The checks decide, by the laws that hold for every block; without a fault the image is written and the bookmark goes on.
 use mathlib.Core.Path.{sym}
 use Prim.Native.Nat.{_+_}
 use native.Mathlib.Omega.{arith}
 use lib.ListN.{length, length-append}
 use borrow.Author.Needs.{needs}
-use Rattle.request.specs.Requests.{Rename}
-use Rattle.volume.proofs.Writers.{Told, told, room-left, not-over, both-short, refused, accepted}
+use Rattle.format.specs.Blocks.{Rename}
+use Rattle.volume.proofs.Writers.{Told, told, room-left, keeps, refused, accepted}
 use Rattle.volume.proofs.Bookmark.append_rename.Statement.{statement}
 use Rattle.volume.proofs.Bookmark.append_rename.Tie as tie
 
@@ -18,12 +18,12 @@ rename-fault-requires c κs = search needs
 append-fault-requires : tie.Need-append-fault-requires
 append-fault-requires c κs = search needs
 
--- what was told of this request
+-- what was told of this block
 here : (c : tie.After-append-fault) → let a = c .before .before .before .before .before .args in
-    Told (a .buf .now) (a .self) (Rename (a .time) (a .old .now) (a .new .now)) (length (a .old .now) + length (a .new .now)) (c .append-fault .result)
+    Told (a .buf .now) (a .self) (Rename (record { time = a .time; old = a .old .now; new = a .new .now })) (length (a .old .now) + length (a .new .now)) (c .append-fault .result)
 here c =
     let a = c .before .before .before .before .before .args in
-    told (a .buf .now) (a .self) (Rename (a .time) (a .old .now) (a .new .now))
+    told (a .buf .now) (a .self) (Rename (record { time = a .time; old = a .old .now; new = a .new .now }))
     (c .before .rename-fault .ensures) (sym (length-append (a .old .now) (a .new .now))) (c .append-fault .ensures)
 
 refuse-requires : tie.Need-refuse-requires
@@ -35,10 +35,9 @@ returns c = refused (here (c .before .before)) (c .refuse .ensures) (c .before .
 write-rename-requires : tie.Need-write-rename-requires
 write-rename-requires c κs =
     let f = c .before in
-    let a = f .before .before .before .before .before .before .args in
     let t = here (f .before) in
-    let s = both-short 65535 65535 (length (a .old .now)) (length (a .new .now)) (not-over t (f .if1 .left)) in
-    (omega (arith, room-left t (f .if1 .left)), (omega (arith, s), omega (arith, s)))
+    let lengths = keeps t (f .if1 .left) .fit in
+    (omega (arith, room-left t (f .if1 .left)), (lengths .1 .0, lengths .1 .1 .0))
 
 add-mark-after : tie.Need-add-mark-after
 add-mark-after c = let f = c .before .before .before .before in omega (arith, room-left (here (f .before)) (f .if1 .left))

@@ -1,9 +1,9 @@
--- The checks decide, by the laws that hold for every request; without a fault the image is written and the bookmark goes on.
+-- The checks decide, by the laws that hold for every block; without a fault the image is written and the bookmark goes on.
 use mathlib.Core.Path.{refl}
 use native.Mathlib.Omega.{arith}
 use lib.ListN.{length}
 use borrow.Author.Needs.{needs}
-use Rattle.request.specs.Requests.{Table}
+use Rattle.format.specs.Blocks.{Table}
 use Rattle.volume.proofs.Writers.{Told, told, room-left, refused, accepted}
 use Rattle.volume.proofs.Bookmark.append_table.Statement.{statement}
 use Rattle.volume.proofs.Bookmark.append_table.Tie as tie
@@ -14,12 +14,12 @@ table-fault-requires c κs = search needs
 append-fault-requires : tie.Need-append-fault-requires
 append-fault-requires c κs = search needs
 
--- what was told of this request
+-- what was told of this block
 here : (c : tie.After-append-fault) → let a = c .before .before .before .before .args in
-    Told (a .buf .now) (a .self) (Table (a .count) (a .links .now)) (length (a .links .now)) (c .append-fault .result)
+    Told (a .buf .now) (a .self) (Table (record { count = a .count; links = a .links .now })) (length (a .links .now)) (c .append-fault .result)
 here c =
     let a = c .before .before .before .before .args in
-    told (a .buf .now) (a .self) (Table (a .count) (a .links .now))
+    told (a .buf .now) (a .self) (Table (record { count = a .count; links = a .links .now }))
     (c .before .table-fault .ensures) refl (c .append-fault .ensures)
 
 refuse-requires : tie.Need-refuse-requires

@@ -1,11 +1,11 @@
--- The checks decide, by the laws that hold for every request; without a fault the image is written and the bookmark goes on.
+-- The checks decide, by the laws that hold for every block; without a fault the image is written and the bookmark goes on.
 use mathlib.Core.Path.{sym}
 use Prim.Native.Nat.{_+_}
 use native.Mathlib.Omega.{arith}
 use lib.ListN.{length, length-append}
 use borrow.Author.Needs.{needs}
-use Rattle.request.specs.Requests.{Xattr}
-use Rattle.volume.proofs.Writers.{Told, told, room-left, not-over, both-short, refused, accepted}
+use Rattle.format.specs.Blocks.{Xattr}
+use Rattle.volume.proofs.Writers.{Told, told, room-left, keeps, refused, accepted}
 use Rattle.volume.proofs.Bookmark.append_xattr.Statement.{statement}
 use Rattle.volume.proofs.Bookmark.append_xattr.Tie as tie
 
@@ -18,12 +18,12 @@ xattr-fault-requires c κs = search needs
 append-fault-requires : tie.Need-append-fault-requires
 append-fault-requires c κs = search needs
 
--- what was told of this request
+-- what was told of this block
 here : (c : tie.After-append-fault) → let a = c .before .before .before .before .before .args in
-    Told (a .buf .now) (a .self) (Xattr (a .time) (a .inode) (a .name .now) (a .value .now)) (length (a .name .now) + length (a .value .now)) (c .append-fault .result)
+    Told (a .buf .now) (a .self) (Xattr (record { time = a .time; inode = a .inode; name = a .name .now; value = a .value .now })) (length (a .name .now) + length (a .value .now)) (c .append-fault .result)
 here c =
     let a = c .before .before .before .before .before .args in
-    told (a .buf .now) (a .self) (Xattr (a .time) (a .inode) (a .name .now) (a .value .now))
+    told (a .buf .now) (a .self) (Xattr (record { time = a .time; inode = a .inode; name = a .name .now; value = a .value .now }))
     (c .before .xattr-fault .ensures) (sym (length-append (a .name .now) (a .value .now))) (c .append-fault .ensures)
 
 refuse-requires : tie.Need-refuse-requires
@@ -36,7 +36,8 @@ write-xattr-requires : tie.Need-write-xattr-requires
 write-xattr-requires c κs =
     let f = c .before in
     let t = here (f .before) in
-    (omega (arith, room-left t (f .if1 .left)), both-short 255 65535 _ _ (not-over t (f .if1 .left)))
+    let lengths = keeps t (f .if1 .left) .fit in
+    (omega (arith, room-left t (f .if1 .left)), (lengths .1 .1 .0, lengths .1 .1 .1 .0))
 
 add-mark-after : tie.Need-add-mark-after
 add-mark-after c = let f = c .before .before .before .before in omega (arith, room-left (here (f .before)) (f .if1 .left))

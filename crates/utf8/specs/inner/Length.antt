@@ -1,5 +1,6 @@
--- The length of a text's longest well-formed beginning, computed: characters are passed from the front while one stands there.
--- proofs/Longest.antt shows that it is that length (`Longest` of specs/Grammar.antt).
+-- Inner page: the length of a text's longest well-formed beginning, computed. Characters are passed from the front while one
+-- stands there.
+-- Joined to Longest, WellFormed of utf8/Grammar by wellFormedLength-is-the-longest, text-iff-well-formed.
 use Prim.Native.Nat.{ℕ, zero, suc}
 use mathlib.Core.Bool.{Bool, true, false, cond, _&&_}
 use mathlib.Core.List.{List, [], _∷_}

@@ -1,4 +1,5 @@
--- What the calls answer: where a position is stored, and how many runs a range has.
+-- Inner page: what `locate` and `range` answer, where a position is stored and how many runs a range has. The crate lookup says its
+-- own answers by positions and runs.
 use Prim.Native.Nat.{ℕ, _*_}
 use mathlib.Core.Bool.{cond}
 use mathlib.Core.Option.{Option, none, some}
@@ -9,8 +10,9 @@ use Rattle.runs.specs.declared.Counted.{Counted}
 use Rattle.runs.specs.declared.Counted.the-variants.{Runs, RoomTooSmall}
 use Rattle.runs.specs.declared.Place.{Place}
 use Rattle.runs.specs.declared.Place.the-variants.{Hole, Stored}
-use Rattle.runs.specs.Positions.{storedAt, keeper}
-use Rattle.runs.specs.Runs.{runCount}
+use Rattle.runs.specs.inner.Stored.{storedAt}
+use Rattle.runs.specs.Positions.{keeper}
+use Rattle.runs.specs.inner.Computed.{runCount}
 
 -- a position that no extent keeps is a hole; any other lies in its keeper's volume
 abbrev pub placeFor : (list : List ℕ) (position : ℕ) → Option ℕ → Place

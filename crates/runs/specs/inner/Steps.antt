@@ -1,4 +1,4 @@
--- The contracts of the functions behind `range`: extents in the order of their kept ranges, and a walk over them run by run.
+-- Inner page: what the contracts of the functions behind `range` cite: extents in the order of their kept ranges, and a walk over them run by run.
 use Prim.Native.Nat.{ℕ, _+_, _-_, _≤_, _<_, min}
 use mathlib.Core.Path.{_≡_}
 use mathlib.Core.Bool.{false}
@@ -6,11 +6,13 @@ use mathlib.Core.List.{List, [], _∷_}
 use lib.ListN.{length, getD}
 use Rattle.format.specs.declared.Extent.{Extent}
 use Rattle.format.specs.Extents.{keptLength, footprint}
-use Rattle.extent.specs.Extents.{extentCount, someBroken, someOverlap}
-use Rattle.extent.specs.Ranges.{rangeStart, rangeEnd}
+use Rattle.extent.specs.Extents.{extentCount}
+use Rattle.extent.specs.inner.Tests.{someBroken, someOverlap}
+use Rattle.extent.specs.inner.Ranges.{rangeStart, rangeEnd}
 use Rattle.runs.specs.declared.Run.{Run}
-use Rattle.runs.specs.Positions.{storedAt, keeper}
-use Rattle.runs.specs.Runs.{runLengths, runNumbers, fiveFor}
+use Rattle.runs.specs.inner.Stored.{storedAt}
+use Rattle.runs.specs.Positions.{keeper}
+use Rattle.runs.specs.inner.Computed.{runLengths, runNumbers, fiveFor}
 
 -- a list that has passed the rules on extents
 pub record Good (list : List ℕ) : Type 0 where

@@ -1,4 +1,4 @@
--- Bytes compared.
+-- Inner page: bytes compared. The test says whether they are equal (`same-iff-equal` in proofs/Same.antt).
 use Prim.Native.Nat.{ℕ}
 use mathlib.Core.Bool.{Bool, true, false, _&&_}
 use mathlib.Core.List.{List, [], _∷_}
