@@ -19,10 +19,12 @@ use Rattle.format.specs.Layout.{total, laid, sealed}
 use Rattle.format.specs.Blocks.{Kind, idOf, widths, Block, kindOf, fields, body, image, KindRules, BlockRules}
 use Rattle.format.specs.Readings.{timeOf}
 use Rattle.format.proofs.Fields.{length-laid}
+use Rattle.format.proofs.Images.{length-image}
 use Rattle.format.proofs.Seal.{length-sealed, seal-part, part-sealed}
 use Rattle.block.specs.Fields.{idAt, fixedLength, bodyLength, bodyEnd}
 use Rattle.block.specs.Order.{checksumWrong, kindOrder}
-use Rattle.block.specs.Shown.{blockOf, shown, timeOfBlock}
+use Rattle.block.specs.inner.Decoded.{blockOf, timeOfBlock}
+use Rattle.block.specs.Shown.{shown}
 use Rattle.block.specs.declared.Block.{Block as Decoded}
 use Rattle.block.specs.declared.Block.the-variants.{Inode, Link, Unlink, Xattr, RemovedXattr, Data, Rename, Table}
 use Rattle.block.proofs.Standing.{fieldsAt, bodyAt, fields-fit, fields-laid, fields-stand}
@@ -109,13 +111,6 @@ module _ (kind : Kind) (volume : List ℕ) (offset : ℕ) (b : Bytes volume) (id
 -- From the image to the checks.
 
 -- an image is as long as its fixed fields, its variable parts and its CRC
-pub length-image : (block : Block) → BlockRules block → length (image block) ≡ fixedLength (kindOf block) + length (body block) + 4
-unfolding image
-length-image block keeps =
-    let fixed : List ℕ = laid (widths (kindOf block)) (fields block) in
-    length-sealed (idOf (kindOf block) ∷ fixed ++ body block)
-    ∙ omega (arith, length-append fixed (body block), length-laid (widths (kindOf block)) (fields block) (keeps .fit))
-
 -- a block is read at an offset
 pub record Reads (volume : List ℕ) (offset : ℕ) (block : Block) : Type 0 where
   pub id : idAt volume offset ≡ idOf (kindOf block)
@@ -156,7 +151,7 @@ module _ (block : Block) (volume : List ℕ) (offset : ℕ) (rest : List ℕ) (k
       let bytes : List ℕ = idOf kind ∷ laid (widths kind) (fields block) ++ body block in
       let p : Accepts volume offset block = parts-stand .2 in
       let n : bodyLength kind volume offset ≡ length (body block) = p .body-length in
-      let i : length (image block) ≡ fixedLength kind + length (body block) + 4 = length-image block keeps in
+      let i : length (image block) ≡ fixedLength kind + length (body block) + 4 = omega (arith, length-image block) in
       let c : length (image block) ≡ length bytes + 4 = length-sealed bytes in
       let l : length volume - offset ≡ length (image block) + length rest
       = sym (length-drop offset volume) ∙ ap length e ∙ length-append (image block) rest in

@@ -13,7 +13,8 @@ use Rattle.format.specs.Blocks.{FileType, regular, symbolicLink, other, fileTyp
 use Rattle.extent.proofs.ListRules as extents
 use Rattle.links.proofs.Tables.{links-end, links-complete}
 use Rattle.block.specs.Fields.{fixedLength, fieldAt, bodyLength}
-use Rattle.block.specs.Shown.{blockOf, shown}
+use Rattle.block.specs.inner.Decoded.{blockOf}
+use Rattle.block.specs.Shown.{shown}
 use Rattle.block.proofs.Passed.{InodePassed, OwnPassed}
 use Rattle.block.proofs.Standing.{fieldsAt}
 

@@ -15,7 +15,8 @@ use Rattle.extent.proofs.ListRules as extents
 use Rattle.links.specs.Links.{linkStart}
 use Rattle.links.proofs.Tables.{links-sound}
 use Rattle.block.specs.Fields.{fixedLength, fieldAt, bodyLength, bodyEnd, typeAt, sizeAt, restAt}
-use Rattle.block.specs.Shown.{blockOf, shown}
+use Rattle.block.specs.inner.Decoded.{blockOf}
+use Rattle.block.specs.Shown.{shown}
 use Rattle.block.proofs.Passed.{InodePassed, OwnPassed}
 use Rattle.block.proofs.Standing.{fieldsAt, bodyAt}
 
@@ -33,7 +34,7 @@ two-parts volume start m n h =
     (length-part volume start m (omega arith), length-part volume (start + m) n (omega arith), sym (part-add volume start m n))
 
 -- the links of a table that end within the volume
-pub links-within : (volume : List ℕ) (offset : ℕ) → bodyEnd linkTable volume offset ≤ length volume
+links-within : (volume : List ℕ) (offset : ℕ) → bodyEnd linkTable volume offset ≤ length volume
     → linkStart (drop (offset + fixedLength linkTable) volume) (fieldAt linkTable "link count" volume offset)
     ≤ length (drop (offset + fixedLength linkTable) volume)
 unfolding bodyLength

@@ -7,4 +7,3 @@ pub mod KindSound
 pub mod KindComplete
 pub mod BlockImage
 pub mod SameBlock
-pub mod TableLinks

@@ -38,7 +38,7 @@ RestPassed regular size rest = ListPassed rest
 RestPassed symbolicLink size rest = WellFormed rest × (size ≡ 70 + length rest)
 RestPassed other size rest = (length rest ≡ 0) × (size ≡ 70)
 
-rest-numbered : (type : FileType) (size : ℕ) (rest : List ℕ) → T (numbered (restOrder type size rest))
+pub rest-numbered : (type : FileType) (size : ℕ) (rest : List ℕ) → T (numbered (restOrder type size rest))
 rest-numbered regular size rest = tt
 rest-numbered symbolicLink size rest = tt
 rest-numbered other size rest = tt

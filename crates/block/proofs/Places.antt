@@ -1,13 +1,7 @@
 -- The kind that an ID has. Assumes nothing.
+use Prim.Native.Nat.{ℕ}
 use mathlib.Core.Path.{_≡_}
-use mathlib.Core.List.{List}
-use Prim.Native.Nat.{ℕ, _+_, _-_, _≤_}
-use native.Mathlib.Nat.{add-sub-cancel-left}
-use native.Mathlib.Omega.{arith}
-use lib.ListN.{length, drop, length-take, length-drop}
-use lib.Seq.{take-length}
 use borrow.Author.Tests.{ne-eqb}
-use Rattle.number.specs.Number.{part}
 use Rattle.format.specs.Blocks.{linkTable}
 use Rattle.block.specs.Fields.{kindWith}
 

@@ -6,7 +6,7 @@ use lib.ListN.{drop, getD}
 use Rattle.format.specs.Blocks.{Kind, inodeBlock, linkBlock, unlinkBlock, xattrBlock, removedXattrBlock, dataBlock, renameBlock, linkTable}
 use Rattle.format.specs.Blocks as format
 use Rattle.block.specs.Fields.{kindWith, kindAt, fixedLength, bodyLength}
-use Rattle.block.specs.Shown.{blockOf, blockAt}
+use Rattle.block.specs.inner.Decoded.{blockOf, blockAt}
 use Rattle.block.specs.declared.Part.{Part}
 use Rattle.block.specs.declared.Block.the-variants.{Inode, Link, Unlink, Xattr, RemovedXattr, Data, Rename, Table}
 use Rattle.block.proofs.Ids.{kind-known}

@@ -18,7 +18,7 @@ ghost use Rattle.number.specs.Number.{part};
 ghost use Rattle.format.specs.Blocks.{inodeBlock, fileType, regular, symbolicLink, other};
 ghost use Rattle.checks.specs.Checks.{firstFault};
 ghost use Rattle.block.specs.Order.{kindOrder, tooLong, restOrder};
-ghost use Rattle.block.specs.Shown.{decodedOf};
+ghost use Rattle.block.specs.inner.Decoded.{decodedOf};
 ghost use Rattle.block.specs.Fields.{bodyEnd};
 ghost use Rattle.block.specs.inner.Parts.{sealedOrder};
 

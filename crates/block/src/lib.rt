@@ -26,7 +26,7 @@ ghost use lib.ListN.{length};
 ghost use Rattle.checks.specs.Checks.{firstFault};
 ghost use Rattle.block.specs.Fields.{kindWith, kindAt};
 ghost use Rattle.block.specs.Order.{volumeLimit, unknownId, wrongPlace, checksumWrong, kindOrder, blockOrder};
-ghost use Rattle.block.specs.Shown.{decodedAt};
+ghost use Rattle.block.specs.inner.Decoded.{decodedAt};
 
 // A part of the volume: where it begins and how long it is.
 pub struct Part {

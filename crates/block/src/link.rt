@@ -11,7 +11,7 @@ ghost use lib.ListN.{length};
 ghost use Rattle.format.specs.Blocks.{linkBlock, unlinkBlock};
 ghost use Rattle.checks.specs.Checks.{firstFault};
 ghost use Rattle.block.specs.Order.{kindOrder};
-ghost use Rattle.block.specs.Shown.{linkBlockOf, decodedOf};
+ghost use Rattle.block.specs.inner.Decoded.{linkBlockOf, decodedOf};
 ghost use Rattle.block.specs.Fields.{fieldAt, bodyEnd};
 
 // The first fault of the link block at `offset`. An unlink block has the same checks.

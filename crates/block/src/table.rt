@@ -16,7 +16,7 @@ ghost use lib.ListN.{length, drop};
 ghost use Rattle.format.specs.Blocks.{linkTable};
 ghost use Rattle.checks.specs.Checks.{firstFault};
 ghost use Rattle.block.specs.Order.{volumeLimit, kindOrder};
-ghost use Rattle.block.specs.Shown.{decodedOf};
+ghost use Rattle.block.specs.inner.Decoded.{decodedOf};
 ghost use Rattle.block.specs.Fields.{bodyEnd, fieldAt};
 ghost use Rattle.links.specs.Links.{linkStart};
 ghost use Rattle.block.specs.inner.Parts.{sealedOrder, linksOrder};

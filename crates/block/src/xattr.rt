@@ -12,7 +12,7 @@ ghost use lib.ListN.{length};
 ghost use Rattle.format.specs.Blocks.{xattrBlock, removedXattrBlock};
 ghost use Rattle.checks.specs.Checks.{firstFault};
 ghost use Rattle.block.specs.Order.{kindOrder};
-ghost use Rattle.block.specs.Shown.{decodedOf};
+ghost use Rattle.block.specs.inner.Decoded.{decodedOf};
 ghost use Rattle.block.specs.Fields.{bodyEnd};
 
 // The first fault of the xattr block at `offset`. Its value is raw bytes.

@@ -12,7 +12,8 @@ use Rattle.format.specs.Layout.{All}
 use Rattle.format.specs.Blocks.{Block, image}
 use Rattle.format.specs.Readings.{Reading}
 use Rattle.block.specs.Order.{volumeLimit}
-use Rattle.block.specs.Shown.{blockAt, shown}
+use Rattle.block.specs.inner.Decoded.{blockAt}
+use Rattle.block.specs.Shown.{shown}
 use Rattle.block.proofs.SameBlock.{same-block}
 use Rattle.volume.specs.Reading.{readAnswer}
 use Rattle.request.specs.Asking.{Sized}
@@ -108,7 +109,7 @@ claimed (block ∷ asked) sized buffer mark sofar s =
 -- Earlier blocks.
 
 -- a block that is handed out is the one that stands there
-found-there : (volume : List ℕ) (mark : Bookmark) (found : Found) → readAnswer volume mark ≡ read.Found found → foundAt volume mark ≡ found
+pub found-there : (volume : List ℕ) (mark : Bookmark) (found : Found) → readAnswer volume mark ≡ read.Found found → foundAt volume mark ≡ found
 found-there volume mark found e = go (answers volume mark) e
   where
     go : {a : ReadAnswer} → Answers volume mark a → a ≡ read.Found found → foundAt volume mark ≡ found

@@ -15,7 +15,7 @@ use Rattle.volume.specs.Checking.{Checked, refused-at-the-header, after-the-hea
 use Rattle.volume.specs.inner.Check.{checkAnswer}
 use Rattle.volume.specs.declared.Bookmark.{Bookmark}
 use Rattle.volume.specs.declared.Accepted.{Accepted}
-use Rattle.volume.specs.declared.Header.{Header as VolumeHeader}
+use Rattle.volume.specs.declared.HeaderRead.{HeaderRead}
 use Rattle.volume.specs.declared.HeaderAnswer.{HeaderAnswer}
 use Rattle.volume.specs.declared.HeaderAnswer.the-variants as head
 use Rattle.volume.specs.declared.Verdict.{Verdict}
@@ -29,7 +29,7 @@ use Rattle.claims.proofs.Walk.{afterAll, runs-volume, volume-runs}
 use Rattle.claims.proofs.Reader.{Read, calls-sound, calls-complete, check-complete, Told, told, calls-same}
 
 -- an accepted header has no fault, and it is answered with what stands in it
-header-given : (volume : List ℕ) (given : VolumeHeader) → headerAnswer volume ≡ head.Accepted given
+header-given : (volume : List ℕ) (given : HeaderRead) → headerAnswer volume ≡ head.Accepted given
     → (headerFault volume ≡ 0) × (givenAt volume ≡ given)
 header-given volume given = go (header-answers volume)
   where

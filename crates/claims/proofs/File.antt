@@ -27,10 +27,12 @@ use Rattle.extent.proofs.Sound.{each-sound, sound-rules}
 use Rattle.extent.proofs.ListRules.{fields-stand, fields-fit}
 use Rattle.block.specs.Fields.{idAt, kindWith, kindAt, fixedLength, fieldAt, bodyLength, typeAt, sizeAt, restAt}
 use Rattle.block.specs.Order.{unknownId, wrongPlace, kindOrder, blockOrder}
-use Rattle.block.specs.Shown.{blockOf, shown}
+use Rattle.block.specs.inner.Decoded.{blockOf}
+use Rattle.block.specs.Shown.{shown}
+use Rattle.format.proofs.Images.{length-image}
 use Rattle.block.proofs.Ids.{id-known, kind-known}
 use Rattle.block.proofs.Passed.{block-numbered, passed-block}
-use Rattle.block.proofs.BlockImage.{Stands, block-sound, Reads, block-complete, length-image}
+use Rattle.block.proofs.BlockImage.{Stands, block-sound, Reads, block-complete}
 use Rattle.lookup.specs.Lookup.{entryCount, lengthOf, lengthsWrong, notFile, isFile, isAbsent, someAbsent, openOrder, extentsOrder, lookupFault}
 use Rattle.lookup.proofs.Deciding.{open-numbered}
 use Rattle.lookup.proofs.Clear.{RegularFile, Clear, each-present, present}
@@ -140,7 +142,7 @@ module _ (volume : List ℕ) (offset : ℕ) (lengths : List ℕ) (m : AllIsThere
   more =
       let after : List ℕ = drop (offset + length (image block)) volume in
       let l = sym (length-drop offset volume) ∙ ap length image-stands ∙ length-append (image block) after in
-      omega (arith, l, length-image block (m .file .keeps))
+      omega (arith, l, length-image block)
 
   kind-is : kindAt volume offset ≡ inodeBlock
   kind-is = ap kindWith (reads .id) ∙ kind-known inodeBlock .0

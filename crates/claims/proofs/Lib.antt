@@ -5,6 +5,7 @@ pub mod Refused
 pub mod Demand3Reading
 pub mod Sofar
 pub mod Appends
+pub mod AnyBookmark
 pub mod Starts
 pub mod Afresh
 pub mod Demand3

@@ -22,7 +22,7 @@ use Rattle.volume.specs.inner.Walk.{onRead}
 use Rattle.volume.specs.inner.Check.{checkAnswer}
 use Rattle.volume.specs.declared.Bookmark.{Bookmark}
 use Rattle.volume.specs.declared.Found.{Found}
-use Rattle.volume.specs.declared.Header.{Header as VolumeHeader}
+use Rattle.volume.specs.declared.HeaderRead.{HeaderRead}
 use Rattle.volume.specs.declared.HeaderAnswer.{HeaderAnswer}
 use Rattle.volume.specs.declared.HeaderAnswer.the-variants as head
 use Rattle.volume.specs.declared.ReadAnswer.the-variants as read
@@ -77,7 +77,7 @@ calls-end (handed e calls) = calls-end calls
 -- From the header on.
 
 -- the reader begins at 80
-first-at-80 : (volume : List ℕ) (header : VolumeHeader) → headerAnswer volume ≡ head.Accepted header → header .next .offset ≡ 80
+first-at-80 : (volume : List ℕ) (header : HeaderRead) → headerAnswer volume ≡ head.Accepted header → header .next .offset ≡ 80
 first-at-80 volume header = go (header-answers volume)
   where
     go : {a : HeaderAnswer} → HeaderAnswers volume a → a ≡ head.Accepted header → header .next .offset ≡ 80
@@ -90,7 +90,7 @@ module _ (volume : List ℕ) (b : Bytes volume) (small : length volume ≤ 65536
   text-after e = rw (le-ltb 65536 (length volume) small, e)
 
   -- the lines of blocks and a last one, after an accepted header
-  text-with : (header : VolumeHeader) (blocks : List Block) (last : List ℕ) → headerAnswer volume ≡ head.Accepted header
+  text-with : (header : HeaderRead) (blocks : List Block) (last : List ℕ) → headerAnswer volume ≡ head.Accepted header
       → linesFrom volume (header .next) 0 ≡ linesOf (header .next .offset) blocks ++ last
       → listing volume ≡ headingLine ++ (linesOf 80 blocks ++ last)
   unfolding afterHeading
@@ -105,7 +105,7 @@ module _ (volume : List ℕ) (b : Bytes volume) (small : length volume ≤ 65536
       (rw (calls-end (g .blocks), zero-add) at (lines-of-calls volume b 0 (g .blocks)))
 
   -- a reading, or where the reader is refused, makes the listing such a text
-  listed-after : (header : VolumeHeader) → headerAnswer volume ≡ head.Accepted header → (answer : Verdict) → checkAnswer volume ≡ answer
+  listed-after : (header : HeaderRead) → headerAnswer volume ≡ head.Accepted header → (answer : Verdict) → checkAnswer volume ≡ answer
       → Told volume (header .next) 0 answer → IsListing ours volume (listing volume)
   listed-after header e (verdict.Accepted accepted) same t =
       let reading = demand-3-reading-holds volume b (omega arith) .accepted-iff-it-has-a-reading .0 (accepted, same) in

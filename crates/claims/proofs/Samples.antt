@@ -24,7 +24,8 @@ use Rattle.extent.specs.Extents.{extentAt}
 use Rattle.extent.specs.inner.Tests.{isSound, someBroken, shareRange, someOverlap}
 use Rattle.block.specs.Fields.{kindWith, bodyLength, sizeAt, restAt}
 use Rattle.block.specs.Order.{volumeLimit, checksumWrong}
-use Rattle.block.specs.Shown.{blockOf, shown}
+use Rattle.block.specs.inner.Decoded.{blockOf}
+use Rattle.block.specs.Shown.{shown}
 use Rattle.volume.specs.Heading.{headerFault, headerAnswer}
 use Rattle.volume.specs.Reading.{isEnd, mayFollow, readOrder, readFault, readAnswer}
 use Rattle.volume.specs.inner.Check.{afterHeader, checkAnswer}

@@ -15,7 +15,7 @@ use Rattle.format.specs.Readings.{IsTable, NoTable, TableRule, timeOf, TimesRis
 use Rattle.format.specs.Readings as format
 use Rattle.block.proofs.Ids.{isTable, table-iff}
 use Rattle.volume.specs.Heading.{firstMark}
-use Rattle.volume.specs.Reading.{asOption, lastAfter}
+use Rattle.volume.specs.Reading.{asOption, lastWith}
 use Rattle.volume.specs.declared.LastTime.{LastTime}
 use Rattle.volume.specs.declared.Bookmark.{Bookmark}
 use Rattle.volume.proofs.OneCall.{Allowed, after}
@@ -36,7 +36,7 @@ not-table block e t = false≢true (sym e ∙ table-iff block .1 t)
 table-not : (block : Block) → (IsTable block → ⊥) → isTable block ≡ false
 table-not block n = eq-false-of-not-eq-true (λ e. n (table-iff block .0 e))
 
-last-after : (last : LastTime) (time : Option ℕ) → asOption (lastAfter last time) ≡ format.lastAfter (asOption last) time
+last-after : (last : LastTime) (time : Option ℕ) → asOption (lastWith last time) ≡ format.lastAfter (asOption last) time
 last-after last none = refl
 last-after last (some time) = refl
 

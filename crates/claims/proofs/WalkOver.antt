@@ -12,7 +12,7 @@ use Rattle.volume.specs.Reading.{readAnswer}
 use Rattle.volume.specs.inner.Walk.{Way, onRead, walkFrom}
 use Rattle.volume.specs.declared.Bookmark.{Bookmark}
 use Rattle.volume.specs.declared.Found.{Found}
-use Rattle.volume.specs.declared.Header.{Header as VolumeHeader}
+use Rattle.volume.specs.declared.HeaderRead.{HeaderRead}
 use Rattle.volume.specs.declared.HeaderAnswer.the-variants as head
 use Rattle.volume.specs.declared.ReadAnswer.the-variants as read
 use Rattle.volume.proofs.Walk.{walk-step}
@@ -46,7 +46,7 @@ module _ {Kept Answer : Type 0} (volume : List ℕ) (b : Bytes volume) (way : Wa
       ∙ ap (λ (next : Bookmark). atBlock mark block kept (λ later. fold atBlock (way .atEnd) next blocks later)) (read-sound volume mark found b e .next)
 
   pub walk-over-reading : (reading : Reading) → length volume ≤ 16777216 → ReadingOf volume reading
-      → (header : VolumeHeader) → headerAnswer volume ≡ head.Accepted header
+      → (header : HeaderRead) → headerAnswer volume ≡ head.Accepted header
       → (kept : Kept) → walkFrom volume way (header .next) kept ≡ fold atBlock (way .atEnd) (header .next) (reading .blocks) kept
   walk-over-reading reading small r header e kept =
       let g = reading-gives volume reading small r in

@@ -13,7 +13,8 @@ use Rattle.format.specs.Layout.{All, laid}
 use Rattle.format.specs.Blocks.{linkImage, linkList, Block, Inode, Link, Unlink, Xattr, RemovedXattr, Data, Rename, Table}
 use Rattle.format.specs.Readings.{timeOf}
 use Rattle.checks.specs.Checks.{firstFault}
-use Rattle.block.specs.Shown.{blockAt, shown}
+use Rattle.block.specs.inner.Decoded.{blockAt}
+use Rattle.block.specs.Shown.{shown}
 use Rattle.block.specs.declared.Block as found
 use Rattle.block.specs.declared.Block.the-variants as kind
 use Rattle.volume.specs.Heading.{headerFault, headerAnswer}

@@ -14,7 +14,7 @@ use Rattle.format.specs.Readings.{Reading, ReadingOf, HasReading}
 use Rattle.block.specs.Shown.{shown}
 use Rattle.volume.specs.declared.Bookmark.{Bookmark}
 use Rattle.volume.specs.declared.Found.{Found}
-use Rattle.volume.specs.declared.Header.{Header as VolumeHeader}
+use Rattle.volume.specs.declared.HeaderRead.{HeaderRead}
 use Rattle.volume.specs.declared.Accepted.{Accepted}
 use Rattle.volume.specs.declared.Rejected.{Rejected}
 use Rattle.volume.specs.declared.HeaderAnswer.the-variants as HeaderAnswer
@@ -76,7 +76,7 @@ module _ (library : Library) where
         → library .readHeader volume ≡ HeaderAnswer.Refused refusal
         → RefusedAt volume (record { refusal = refusal; offset = 0; blocks = 0 })
     at-a-block :
-        {header : VolumeHeader} {blocks : List Block} {at : Bookmark} {refusal : Refusal}
+        {header : HeaderRead} {blocks : List Block} {at : Bookmark} {refusal : Refusal}
         → library .readHeader volume ≡ HeaderAnswer.Accepted header
         → Stops volume (header .next) blocks at refusal
         → RefusedAt volume (record { refusal = refusal; offset = at .offset; blocks = length blocks })

@@ -1,5 +1,6 @@
 pub mod Library
 pub mod Demand2
+pub mod AnyBookmark
 pub mod Fetching
 pub mod Demand3Reading
 pub mod Demand3

@@ -12,7 +12,7 @@ use Rattle.refusal.specs.declared.Refusal.{Refusal}
 use Rattle.format.specs.Blocks.{idOf, Block, kindOf, image}
 use Rattle.format.specs.Readings.{Reading, ReadingOf}
 use Rattle.volume.specs.declared.Bookmark.{Bookmark}
-use Rattle.volume.specs.declared.Header.{Header as VolumeHeader}
+use Rattle.volume.specs.declared.HeaderRead.{HeaderRead}
 use Rattle.volume.specs.declared.HeaderAnswer.the-variants as HeaderAnswer
 use Rattle.listing.specs.Listing.{headingLine, blockLine, endLine, refusedLine}
 use Rattle.listing.specs.declared.ListAnswer.the-variants.{Written, Refused}
@@ -42,7 +42,7 @@ module _ (library : Library) where
         → IsListing volume (headingLine ++ refusedLine (refusal .number) 0)
     -- a line for each block that the reader hands out before it is refused; then the refusal, and where it is
     of-a-refused-block :
-        (header : VolumeHeader) (blocks : List Block) (at : Bookmark) (refusal : Refusal)
+        (header : HeaderRead) (blocks : List Block) (at : Bookmark) (refusal : Refusal)
         → length volume ≤ 65536
         → library .readHeader volume ≡ HeaderAnswer.Accepted header
         → Stops library volume (header .next) blocks at refusal

@@ -18,7 +18,8 @@ use Rattle.format.specs.Headers.{Header, noHash}
 use Rattle.format.specs.Readings.{volumeOf}
 use Rattle.extent.specs.Extents.{extentAt}
 use Rattle.block.specs.Fields.{restAt}
-use Rattle.block.specs.Shown.{blockAt, shown}
+use Rattle.block.specs.inner.Decoded.{blockAt}
+use Rattle.block.specs.Shown.{shown}
 use Rattle.volume.specs.Reading.{readAnswer}
 use Rattle.volume.specs.inner.Check.{checkAnswer}
 use Rattle.volume.specs.declared.Bookmark.{Bookmark}

@@ -10,7 +10,7 @@ use Rattle.number.specs.Number.{put}
 use Rattle.refusal.specs.Refusal.{refusalOf}
 use Rattle.format.specs.Blocks as format
 use Rattle.format.specs.Headers.{Header}
-use Rattle.block.specs.Shown.{blockAt}
+use Rattle.block.specs.inner.Decoded.{blockAt}
 use Rattle.block.specs.declared.Block.{Block}
 use Rattle.block.specs.declared.Block.the-variants as block
 use Rattle.volume.specs.declared.Bookmark.{Bookmark}

@@ -20,7 +20,8 @@ use Rattle.links.specs.declared.LinkAnswer.the-variants as LinkAnswer
 use Rattle.links.proofs.Tables.{links-shown, links-fill-bytes}
 use Rattle.links.proofs.Walks.{walked-to-the-end}
 use Rattle.block.specs.Fields.{kindWith, bytesOf}
-use Rattle.block.specs.Shown.{blockAt, shown}
+use Rattle.block.specs.inner.Decoded.{blockAt}
+use Rattle.block.specs.Shown.{shown}
 use Rattle.block.specs.declared.TableBlock.{TableBlock}
 use Rattle.block.specs.declared.Block.{Block}
 use Rattle.block.specs.declared.Block.the-variants.{Inode, Link, Unlink, Xattr, RemovedXattr, Data, Rename, Table}

@@ -8,10 +8,9 @@ use lib.Text.{eqt}
 use Rattle.format.specs.Layout.{Field, field}
 use Rattle.format.specs.Blocks as format
 use Rattle.format.specs.Blocks.{idOf, layout, kindOf, fields}
-use Rattle.block.specs.Shown.{shown}
+use Rattle.block.specs.Shown.{shown, parts}
 use Rattle.block.specs.declared.Part.{Part}
 use Rattle.block.specs.declared.Block.{Block}
-use Rattle.block.specs.declared.Block.the-variants.{Inode, Link, Unlink, Xattr, RemovedXattr, Data, Rename, Table}
 use Rattle.volume.specs.declared.LastTime.the-variants.{Never}
 use Rattle.volume.specs.declared.Bookmark.{Bookmark}
 use Rattle.exchange.specs.Marks.{flagNumber, timedNumber, timeNumber}
@@ -30,17 +29,6 @@ withoutParts block = shown [] block
 -- a fixed field of a block, by its name in the layout
 abbrev pub fieldOf : (block : format.Block) (name : String) → ℕ
 fieldOf block name = valueIn name (layout (kindOf block)) (fields block)
-
--- the variable parts, in layout order
-abbrev pub parts : Block → List Part
-parts (Inode b) = b .rest ∷ []
-parts (Link b) = b .name ∷ []
-parts (Unlink b) = b .name ∷ []
-parts (Xattr b) = b .name ∷ b .value ∷ []
-parts (RemovedXattr b) = b .name ∷ []
-parts (Data b) = b .payload ∷ []
-parts (Rename b) = b .old ∷ b .new ∷ []
-parts (Table b) = b .links ∷ []
 
 -- a part by its number, counted from 0; a block with fewer parts has it at 0, with no bytes
 abbrev pub partWith : (index : ℕ) (parts : List Part) → Part

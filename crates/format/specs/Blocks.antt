@@ -28,18 +28,8 @@ idOf linkTable = 8
 -- the fields between the ID and the first variable part: the fixed fields
 abbrev pub layout : Kind → List Field
 layout inodeBlock =
-    field "inode" 8
-    ∷ field "time" 8
-    ∷ field "mode" 2
-    ∷ field "uid" 2
-    ∷ field "gid" 2
-    ∷ field "atime" 8
-    ∷ field "mtime" 8
-    ∷ field "ctime" 8
-    ∷ field "btime" 8
-    ∷ field "size" 8
-    ∷ field "n" 8
-    ∷ []
+    field "inode" 8 ∷ field "time" 8 ∷ field "mode" 2 ∷ field "uid" 2 ∷ field "gid" 2
+    ∷ field "atime" 8 ∷ field "mtime" 8 ∷ field "ctime" 8 ∷ field "btime" 8 ∷ field "size" 8 ∷ field "n" 8 ∷ []
 layout linkBlock = field "time" 8 ∷ field "child" 8 ∷ field "parent" 8 ∷ field "n" 2 ∷ []
 layout unlinkBlock = field "time" 8 ∷ field "child" 8 ∷ field "parent" 8 ∷ field "n" 2 ∷ []
 layout xattrBlock = field "time" 8 ∷ field "inode" 8 ∷ field "n" 1 ∷ field "m" 2 ∷ []
@@ -142,18 +132,7 @@ kindOf (Table b) = linkTable
 -- the values of the fixed fields, in layout order
 abbrev pub fields : Block → List ℕ
 fields (Inode b) =
-    b .inode
-    ∷ b .time
-    ∷ b .mode
-    ∷ b .uid
-    ∷ b .gid
-    ∷ b .atime
-    ∷ b .mtime
-    ∷ b .ctime
-    ∷ b .btime
-    ∷ b .size
-    ∷ length (b .rest)
-    ∷ []
+    b .inode ∷ b .time ∷ b .mode ∷ b .uid ∷ b .gid ∷ b .atime ∷ b .mtime ∷ b .ctime ∷ b .btime ∷ b .size ∷ length (b .rest) ∷ []
 fields (Link b) = b .time ∷ b .child ∷ b .parent ∷ length (b .name) ∷ []
 fields (Unlink b) = b .time ∷ b .child ∷ b .parent ∷ length (b .name) ∷ []
 fields (Xattr b) = b .time ∷ b .inode ∷ length (b .name) ∷ length (b .value) ∷ []

@@ -11,30 +11,13 @@ use Rattle.format.specs.Layout.{Field, field, widthsIn, Fit, laid, All}
 -- volume, start (P), block size (S), multiplicity, count (C), pre, post, logical start (Q)
 abbrev pub extentLayout : List Field
 extentLayout =
-    field "volume" 8
-    ∷ field "P" 8
-    ∷ field "S" 8
-    ∷ field "multiplicity" 1
-    ∷ field "C" 8
-    ∷ field "pre" 8
-    ∷ field "post" 8
-    ∷ field "Q" 8
-    ∷ []
+    field "volume" 8 ∷ field "P" 8 ∷ field "S" 8 ∷ field "multiplicity" 1 ∷ field "C" 8 ∷ field "pre" 8 ∷ field "post" 8 ∷ field "Q" 8 ∷ []
 
 abbrev pub extentWidths : List ℕ
 extentWidths = widthsIn extentLayout
 
 abbrev pub extentFields : Extent → List ℕ
-extentFields e =
-    e .volume
-    ∷ e .start .0
-    ∷ e .size
-    ∷ e .multiplicity
-    ∷ e .count
-    ∷ e .pre
-    ∷ e .post
-    ∷ e .logical .0
-    ∷ []
+extentFields e = e .volume ∷ e .start .0 ∷ e .size ∷ e .multiplicity ∷ e .count ∷ e .pre ∷ e .post ∷ e .logical .0 ∷ []
 
 -- extents, one after the other, 57 bytes each
 unfoldable pub extentList : List Extent → List ℕ

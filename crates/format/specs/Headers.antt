@@ -19,14 +19,8 @@ magic =
 -- the fields before the CRC
 abbrev pub headerLayout : List Field
 headerLayout =
-    field "magic" 17
-    ∷ field "version" 1
-    ∷ field "file system ID" 16
-    ∷ field "CRC algorithm" 1
-    ∷ field "hash algorithm" 1
-    ∷ field "sequence number" 8
-    ∷ field "previous hash" 32
-    ∷ []
+    field "magic" 17 ∷ field "version" 1 ∷ field "file system ID" 16 ∷ field "CRC algorithm" 1 ∷ field "hash algorithm" 1
+    ∷ field "sequence number" 8 ∷ field "previous hash" 32 ∷ []
 
 -- version and both algorithms are 0
 unfoldable pub headerFields : Header → List ℕ

@@ -2,22 +2,18 @@
 use Prim.Native.Nat.{ℕ, zero, suc, _+_, _≤_, _<_}
 use mathlib.Core.Path.{_≡_, refl, sym, ap, _∙_, subst}
 use mathlib.Core.Option.{none, some}
-use mathlib.Core.List.{List, [], _++_, append-nil}
+use mathlib.Core.List.{List}
 use native.Mathlib.Nat.{add-zero, zero-add, not-suc-le-zero}
 use native.Mathlib.Omega.{arith}
-use lib.ListN.{length, take, getElem?}
-use lib.Seq.{take-all}
+use lib.ListN.{length, getElem?}
 use borrow.Author.Tests.{lt-ltb, le-leb}
-use Rattle.number.specs.Number.{Bytes}
 use Rattle.order.proofs.Cases.{cases}
-use Rattle.format.specs.Blocks.{TableLink, linkList}
 use Rattle.links.specs.Links.{nameLengthAt, linkEnd, linkStart, linkAt, linksFrom, foundAt, linkFrom, linkAnswer}
 use Rattle.links.specs.inner.Sorting.{Fits}
 use Rattle.links.specs.Walked.{linkShown, Walked, none-left, handed}
 use Rattle.links.specs.declared.LinkAnswer.the-variants.{Found}
 use Rattle.links.proofs.Starts.{start-zero, start-suc, link-within}
 use Rattle.links.proofs.Answers.{cut-short, not-so-many}
-use Rattle.links.proofs.Lists.{length-links, links-fitting, list-of-links, start-of-list}
 
 module _ (links : List ℕ) where
   -- the link at a place, where it ends within the bytes
@@ -73,18 +69,3 @@ module _ (links : List ℕ) where
   pub walked-to-the-end : (count : ℕ) → linkStart links count ≡ length links → Walked links 0 (linksFrom links 0 count)
   walked-to-the-end count end =
       rw (← start-zero links) at (walked-from 0 count (rw (zero-add count) end))
-
--- the bytes of links that lie within others are filled by them
-pub links-fill : (links : List ℕ) → Bytes links → (count : ℕ) → linkStart links count ≤ length links
-    → linkStart (take (linkStart links count) links) count ≡ length (take (linkStart links count) links)
-links-fill links b count within =
-    let list : List TableLink = linksFrom links 0 count in
-    let end : linkStart (linkList list ++ []) (length list) ≡ length (linkList list)
-    = start-of-list list [] (links-fitting links b count within) in
-    rw (append-nil (linkList list), list-of-links links b count within, length-links links count) at end
-
--- bytes that links fill are the list of these links
-pub filled-list : (links : List ℕ) → Bytes links → (count : ℕ) → linkStart links count ≡ length links
-    → links ≡ linkList (linksFrom links 0 count)
-filled-list links b count end =
-    sym (list-of-links links b count (omega arith) ∙ take-all (linkStart links count) links (omega arith))

@@ -5,7 +5,6 @@ use mathlib.Core.Option.{Option, none, some}
 use mathlib.Core.List.{List, [], _∷_, _++_}
 use lib.Dec.{ltb, eqb}
 use lib.ListN.{length}
-use Rattle.number.specs.Number.{part}
 use Rattle.checks.specs.Checks.{Check, check, firstFault}
 use Rattle.volume.specs.Heading.{sequenceOf, headerOrder}
 

@@ -5,7 +5,7 @@ use mathlib.Core.Path.{_≡_, sym, ap, _∙_}
 use mathlib.Core.List.{List, _++_}
 use mathlib.Core.Logic.{⊎-elim}
 use mathlib.Mathlib.Data.Bool.Basic.{dichotomy}
-use native.Mathlib.Nat.{add-zero, add-sub-cancel-left, min-eq-left, min-eq-right}
+use native.Mathlib.Nat.{add-sub-cancel-left, min-eq-left, min-eq-right}
 use native.Mathlib.Omega.{arith}
 use lib.Dec.{ltb}
 use lib.ListN.{length, take, drop, getD, length-take, length-drop, drop-of-length-le, take-append-drop}
@@ -87,7 +87,3 @@ pub number-from : (bytes : List ℕ) (at from offset width : ℕ) → from ≡ m
     → numberAt (take (length bytes - from) (drop from bytes)) offset width ≡ numberAt bytes (at + offset) width
 number-from bytes at from offset width e =
     rw (take-all (length bytes - from) (drop from bytes) (simp length-drop (omega arith)), e, drop-min, drop-drop)
-
-pub number-first : (bytes : List ℕ) (at from width : ℕ) → from ≡ min at (length bytes)
-    → numberAt (take (length bytes - from) (drop from bytes)) 0 width ≡ numberAt bytes at width
-number-first bytes at from width e = rw add-zero at (number-from bytes at from 0 width e)

@@ -3,7 +3,8 @@ use mathlib.Core.Path.{_≡_, sym, ap, _∙_}
 use mathlib.Core.List.{[], append-nil}
 use Rattle.format.specs.Blocks.{Block, kindOf, image, BlockRules}
 use Rattle.block.specs.Fields.{kindAt, kindWith}
-use Rattle.block.specs.Shown.{blockAt, shown}
+use Rattle.block.specs.inner.Decoded.{blockAt}
+use Rattle.block.specs.Shown.{shown}
 use Rattle.block.proofs.Ids.{kind-known}
 use Rattle.block.proofs.BlockImage.{Reads, block-complete}
 

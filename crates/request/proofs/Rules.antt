@@ -2,7 +2,6 @@
 use Prim.Native.Nat.{ℕ, suc, _≤_, _<_}
 use mathlib.Core.Path.{_≡_}
 use mathlib.Core.Bool.{false}
-use mathlib.Core.List.{List}
 use native.Mathlib.Omega.{arith}
 use lib.Dec.{T, ltb}
 use lib.ListN.{length}
@@ -12,10 +11,10 @@ use Rattle.checks.proofs.Laws.{numbered}
 use Rattle.checks.proofs.Passed.{Passed, all-passed, no-fault}
 use Rattle.checks.proofs.Tests.{eq-neb}
 use Rattle.format.specs.Blocks.{Block, Inode, Link, Unlink, Xattr, RemovedXattr, Data, Rename, Table}
-use Rattle.format.specs.Blocks.{FileType, regular, symbolicLink, other, fileType, BlockRules}
+use Rattle.format.specs.Blocks.{FileType, fileType, BlockRules}
 use Rattle.links.proofs.Tables.{LinksPass, filled-sound, links-fill-bytes, filled-complete}
 use Rattle.block.specs.Order.{restOrder}
-use Rattle.block.proofs.Passed.{text, RestPassed, rest-passed, passed-rest, InodePassed}
+use Rattle.block.proofs.Passed.{text, RestPassed, rest-numbered, rest-passed, passed-rest, InodePassed}
 use Rattle.block.proofs.KindSound.{inode-rules}
 use Rattle.block.proofs.KindComplete.{inode-tests}
 use Rattle.request.specs.Requests.{requestOrder}
@@ -28,13 +27,6 @@ within largest n e = let h : n ≤ largest = ltb-false largest n e in omega arit
 
 fits : (largest n : ℕ) → n < suc largest → ltb largest n ≡ false
 fits largest n h = le-ltb largest n (omega arith)
-
--- What comes after 9 for an inode goes by file type.
-
-rest-numbered : (type : FileType) (size : ℕ) (rest : List ℕ) → T (numbered (restOrder type size rest))
-rest-numbered regular size rest = tt
-rest-numbered symbolicLink size rest = tt
-rest-numbered other size rest = tt
 
 -- the checks have numbers above 0
 pub request-numbered : (block : Block) → T (numbered (requestOrder block))

@@ -23,7 +23,7 @@ use Rattle.format.proofs.Seal.{length-sealed, seal-part, part-sealed}
 use Rattle.block.specs.Order.{volumeLimit, checksumWrong}
 use Rattle.volume.specs.Heading.{headerBytes, sequenceOf, hashWrong, headerFault}
 use Rattle.volume.specs.Heading.{firstMark, headerAnswer}
-use Rattle.volume.specs.declared.Header.{Header as Given}
+use Rattle.volume.specs.declared.HeaderRead.{HeaderRead}
 use Rattle.volume.specs.declared.HeaderAnswer.{HeaderAnswer}
 use Rattle.volume.specs.declared.HeaderAnswer.the-variants.{Accepted, Refused}
 use Rattle.volume.proofs.Passed.{HeaderPassed, header-passed}
@@ -157,7 +157,7 @@ header-complete volume header rest rules small e =
 -- The answer.
 
 -- what a header without fault gives
-abbrev pub givenAt : (volume : List ℕ) → Given
+abbrev pub givenAt : (volume : List ℕ) → HeaderRead
 givenAt volume = record { sequence = sequenceOf volume; next = firstMark (sequenceOf volume) }
 
 -- the two answers, each with its reason

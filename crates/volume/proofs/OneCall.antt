@@ -18,10 +18,12 @@ use Rattle.format.specs.Blocks.{Kind, idOf, Block, kindOf, image, BlockRules}
 use Rattle.format.specs.Readings.{timeOf, TimeFollows}
 use Rattle.block.specs.Fields.{idAt, kindWith, kindAt, bodyEnd}
 use Rattle.block.specs.Order.{volumeLimit, unknownId, wrongPlace, kindOrder, blockOrder}
-use Rattle.block.specs.Shown.{blockAt, shown, timeOfBlock}
+use Rattle.block.specs.inner.Decoded.{blockAt, timeOfBlock}
+use Rattle.block.specs.Shown.{shown}
+use Rattle.format.proofs.Images.{length-image}
 use Rattle.block.proofs.Ids.{kind-known, id-known, isTable}
 use Rattle.block.proofs.Passed.{block-numbered, passed-block}
-use Rattle.block.proofs.BlockImage.{Stands, block-sound, Reads, block-complete, length-image, same-time}
+use Rattle.block.proofs.BlockImage.{Stands, block-sound, Reads, block-complete, same-time}
 use Rattle.volume.specs.Reading.{isEnd, asOption, mayFollow, markAfter, readFault, nextMark, readAnswer}
 use Rattle.volume.specs.declared.LastTime.{LastTime}
 use Rattle.volume.specs.declared.LastTime.the-variants.{Never, At}
@@ -148,7 +150,7 @@ module _ (volume : List ℕ) (mark : Bookmark) (block : Block) (small : length v
       let r : Reads volume offset block = block-complete block volume offset rest (allowed .keeps) e in
       let kind : kindAt volume offset ≡ kindOf block = ap kindWith (r .id) ∙ kind-known (kindOf block) .0 in
       let l = sym (length-drop offset volume) ∙ ap length e ∙ length-append (image block) rest in
-      let more : offset < length volume = omega (arith, l, length-image block (allowed .keeps)) in
+      let more : offset < length volume = omega (arith, l, length-image block) in
       let same : shown volume (blockAt volume offset) ≡ block = rw kind (r .same) in
       let time : timeOfBlock (blockAt volume offset) ≡ timeOf block = same-time volume (blockAt volume offset) ∙ ap timeOf same in
       let end : bodyEnd (kindAt volume offset) volume offset + 4 ≡ offset + length (image block) = rw kind (r .end) in

@@ -15,7 +15,7 @@ use Rattle.format.specs.Blocks.{Block, image}
 use Rattle.format.specs.Headers.{Header, magic}
 use Rattle.format.specs.Readings.{timeOf}
 use Rattle.block.specs.Order.{volumeLimit, checksumWrong, blockOrder}
-use Rattle.block.specs.Shown.{blockAt, timeOfBlock}
+use Rattle.block.specs.inner.Decoded.{blockAt, timeOfBlock}
 use Rattle.block.proofs.Ids.{isTable}
 use Rattle.block.proofs.Passed.{BlockPassed, block-numbered, block-passed}
 use Rattle.request.specs.Requests.{requestOrder}

@@ -9,7 +9,7 @@ use lib.ListN.{length}
 use borrow.Author.Tests.{eqb-true, eqb-false, eq-eqb, ne-eqb}
 use Rattle.refusal.specs.Refusal.{refusalOf}
 use Rattle.block.specs.Fields.{kindAt}
-use Rattle.block.specs.Shown.{blockAt}
+use Rattle.block.specs.inner.Decoded.{blockAt}
 use Rattle.block.proofs.Passed.{kind-passed}
 use Rattle.volume.specs.Reading.{isEnd, readFault, nextMark, readAnswer}
 use Rattle.volume.specs.declared.Bookmark.{Bookmark}

@@ -8,7 +8,7 @@ use borrow.Author.Tests.{eq-eqb, ne-eqb}
 use Rattle.checks.specs.Checks.{firstFault}
 use Rattle.checks.proofs.Laws.{firstFault-append}
 use Rattle.block.specs.Order.{blockOrder}
-use Rattle.block.specs.Shown.{blockAt, timeOfBlock}
+use Rattle.block.specs.inner.Decoded.{blockAt, timeOfBlock}
 use Rattle.block.proofs.Passed.{block-numbered}
 use Rattle.volume.specs.Heading.{headerFault}
 use Rattle.volume.specs.Reading.{mayFollow, readFault}

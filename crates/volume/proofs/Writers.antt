@@ -18,7 +18,7 @@ use Rattle.format.specs.Blocks.{Block, kindOf, body, image, BlockRules}
 use Rattle.format.specs.Headers.{Header, headerImage}
 use Rattle.format.specs.Readings.{timeOf}
 use Rattle.block.proofs.Ids.{isTable}
-use Rattle.encode.proofs.Lengths.{sizeOf, length-image}
+use Rattle.format.proofs.Images.{sizeOf, length-image}
 use Rattle.request.specs.Requests.{requestOrder}
 use Rattle.request.specs.Asking.{Sized}
 use Rattle.request.proofs.Rules.{request-numbered, request-sound}

@@ -1,5 +1,6 @@
--- What the whole-volume check answers: "accepted, sequence number, number of blocks after the header (table included) and the end
--- bookmark; or refused, number, offset of the header or block at fault, and the number of blocks accepted before it".
+-- What the whole-volume check answers. It accepts a volume with its sequence number, how many blocks follow the header, a table among
+-- them, and the end bookmark. Otherwise it refuses with a number, tells where the header or block at fault begins, and how many blocks
+-- it had accepted before.
 --
 -- A volume has exactly one such verdict (proofs/Checked.antt), and check answers it.
 use Prim.Native.Nat.{ℕ, suc}
@@ -9,7 +10,7 @@ use Rattle.refusal.specs.declared.Refusal.{Refusal}
 use Rattle.volume.specs.Heading.{headerAnswer}
 use Rattle.volume.specs.Reading.{readAnswer}
 use Rattle.volume.specs.declared.Bookmark.{Bookmark}
-use Rattle.volume.specs.declared.Header.{Header as VolumeHeader}
+use Rattle.volume.specs.declared.HeaderRead.{HeaderRead}
 use Rattle.volume.specs.declared.Found.{Found}
 use Rattle.volume.specs.declared.HeaderAnswer.the-variants as HeaderAnswer
 use Rattle.volume.specs.declared.ReadAnswer.the-variants as ReadAnswer
@@ -44,7 +45,7 @@ pub data Checked (volume : List ℕ) : Verdict → Type 0 where
       → Checked volume (Verdict.Refused (record { refusal = refusal; offset = 0; blocks = 0 }))
   -- block after block from the header's bookmark on
   after-the-header :
-      {header : VolumeHeader} {answer : Verdict}
+      {header : HeaderRead} {answer : Verdict}
       → headerAnswer volume ≡ HeaderAnswer.Accepted header
       → CheckedFrom volume (header .sequence) (header .next) 0 answer
       → Checked volume answer

@@ -9,12 +9,12 @@ use Rattle.checks.specs.Checks.{Check, check, firstFault}
 use Rattle.refusal.specs.Refusal.{refusalOf}
 use Rattle.block.specs.Fields.{kindAt, bodyEnd}
 use Rattle.block.specs.Order.{volumeLimit, blockOrder}
-use Rattle.block.specs.Shown.{blockAt, timeOfBlock}
+use Rattle.block.specs.inner.Decoded.{blockAt, timeOfBlock}
 use Rattle.volume.specs.declared.LastTime.{LastTime}
 use Rattle.volume.specs.declared.LastTime.the-variants.{Never, At}
 use Rattle.volume.specs.declared.Bookmark.{Bookmark}
 use Rattle.volume.specs.declared.ReadAnswer.{ReadAnswer}
-use Rattle.volume.specs.declared.ReadAnswer.the-variants.{Found as Block, End, Refused}
+use Rattle.volume.specs.declared.ReadAnswer.the-variants.{Found, End, Refused}
 
 -- "end": the bookmark stands at the volume's length with no table due, and neither 1 nor 8 (below 80) is to be given
 unfoldable pub isEnd : (volume : List ℕ) → Bookmark → Bool
@@ -33,9 +33,9 @@ mayFollow Never (some time) = true
 mayFollow (At last) (some time) = ltb last time
 
 -- the last time once a block has been passed
-abbrev pub lastAfter : LastTime → (time : Option ℕ) → LastTime
-lastAfter last none = last
-lastAfter last (some time) = At time
+abbrev pub lastWith : LastTime → (time : Option ℕ) → LastTime
+lastWith last none = last
+lastWith last (some time) = At time
 
 -- the checks of the block at a bookmark: the block's own, then 14
 abbrev pub readOrder : (volume : List ℕ) → Bookmark → List Check
@@ -48,7 +48,7 @@ readFault volume mark = firstFault (readOrder volume mark)
 
 -- the bookmark after a block at a bookmark that ends at an offset: no table is due, and the block's time is the last, if it has one
 abbrev pub markAfter : Bookmark → (end : ℕ) (time : Option ℕ) → Bookmark
-markAfter mark end time = record { offset = end; due = false; last = lastAfter (mark .last) time }
+markAfter mark end time = record { offset = end; due = false; last = lastWith (mark .last) time }
 
 -- the bookmark after the block at a bookmark
 abbrev pub nextMark : (volume : List ℕ) → Bookmark → Bookmark
@@ -60,5 +60,5 @@ unfoldable pub readAnswer : (volume : List ℕ) → Bookmark → ReadAnswer
 readAnswer volume mark =
     cond (isEnd volume mark) End
     (cond (eqb (readFault volume mark) 0)
-    (Block (record { block = blockAt volume (mark .offset); next = nextMark volume mark }))
+    (Found (record { block = blockAt volume (mark .offset); next = nextMark volume mark }))
     (Refused (refusalOf (readFault volume mark))))

@@ -1,7 +1,7 @@
 // The header: what reading it answers, the parts that it hands out, and writing it.
 use crate::Bookmark;
-use crate::Header;
 use crate::HeaderAnswer;
+use crate::HeaderRead;
 use crate::LastTime;
 use crate::WriteAnswer;
 use block::limits::HEADER_LEN;
@@ -98,7 +98,7 @@ pub fn read_header(volume: &[u8]) -> HeaderAnswer
     }
     let sequence = number::read_u64(volume, 36);
     let next = first_mark(sequence);
-    HeaderAnswer::Accepted(Header { sequence, next })
+    HeaderAnswer::Accepted(HeaderRead { sequence, next })
 }
 
 // A part of a sound header, as a part of the volume; empty where the header is refused.

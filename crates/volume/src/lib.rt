@@ -26,13 +26,13 @@ pub struct Bookmark {
 }
 
 // What a sound header gives.
-pub struct Header {
+pub struct HeaderRead {
     pub sequence: u64,
     pub next: Bookmark,
 }
 
 pub enum HeaderAnswer {
-    Accepted(Header),
+    Accepted(HeaderRead),
     Refused(Refusal),
 }
 

@@ -9,7 +9,7 @@ use block::limits::VOLUME_LIMIT;
 use refusal::TIME_NOT_GREATER;
 use refusal::refuse;
 ghost use mathlib.Core.Path.{_≡_};
-ghost use Rattle.block.specs.Shown.{timeOfBlock};
+ghost use Rattle.block.specs.inner.Decoded.{timeOfBlock};
 ghost use Rattle.volume.specs.Reading.{asOption, isEnd, mayFollow, markAfter, readAnswer};
 
 // Whether the bookmark stands at the end of the volume, with nothing due there.

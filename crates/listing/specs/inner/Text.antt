@@ -1,4 +1,5 @@
--- Inner page: the text of a volume's listing, computed. It is the text that claims/specs/Listed.antt says, and no other.
+-- Inner page: the text of a volume's listing, computed.
+-- Joined to IsListing, ListingClaim of claims/Listed by listed-holds.
 use Prim.Native.Nat.{ℕ, suc, _-_}
 use mathlib.Core.Bool.{cond}
 use mathlib.Core.List.{List, _++_}

@@ -1,6 +1,6 @@
 -- Inner page: what a position lookup and a range query answer, computed.
 -- Joined to Demand2 of claims/Demand2 by demand-2-holds.
-use Prim.Native.Nat.{ℕ, _/_}
+use Prim.Native.Nat.{ℕ}
 use mathlib.Core.Bool.{cond}
 use mathlib.Core.Option.{Option, none, some}
 use mathlib.Core.List.{List}

@@ -1,6 +1,6 @@
 -- Inner page: where a kept position is stored, computed.
 -- Joined to IsPlace of claims/Demand2 by demand-2-holds.
-use Prim.Native.Nat.{ℕ, _+_, _-_, _/_, _%_}
+use Prim.Native.Nat.{ℕ, _+_, _%_}
 use mathlib.Core.Bool.{cond}
 use lib.Dec.{eqb}
 use Rattle.format.specs.declared.Extent.{Extent}

@@ -1,4 +1,5 @@
--- Inner page: the whole-volume check, computed. It is the verdict that `Checked` says, and no other (proofs/Checked.antt).
+-- Inner page: the whole-volume check, computed.
+-- Joined to Checked of volume/Checking by checked-exactly.
 use Prim.Native.Nat.{ℕ, suc}
 use mathlib.Core.List.{List}
 use Rattle.volume.specs.Heading.{headerAnswer}

@@ -1,6 +1,6 @@
 -- The tests are the checks of 11, 11 and 12.
 use borrow.Author.Needs.{needs}
-use Rattle.checks.proofs.Laws.{decided, either-side}
+use Rattle.checks.proofs.Laws.{decided}
 use Rattle.checks.proofs.Tests.{told, walks}
 use Rattle.block.proofs.inode.list_fault.Statement.{statement}
 use Rattle.block.proofs.inode.list_fault.Tie as tie

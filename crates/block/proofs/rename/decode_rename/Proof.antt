@@ -1,7 +1,7 @@
 -- Each field is what its reading gives; the old path begins after the fixed fields and the new one after it.
 use borrow.Author.Needs.{needs}
 use Rattle.block.specs.Fields.{bodyLength}
-use Rattle.block.specs.Shown.{blockOf}
+use Rattle.block.specs.inner.Decoded.{blockOf}
 use Rattle.block.proofs.rename.decode_rename.Statement.{statement}
 use Rattle.block.proofs.rename.decode_rename.Tie as tie
 

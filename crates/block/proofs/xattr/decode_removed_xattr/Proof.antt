@@ -1,7 +1,7 @@
 -- Each field is what its reading gives, and the name begins after the fixed fields.
 use borrow.Author.Needs.{needs}
 use Rattle.block.specs.Fields.{bodyLength}
-use Rattle.block.specs.Shown.{blockOf}
+use Rattle.block.specs.inner.Decoded.{blockOf}
 use Rattle.block.proofs.xattr.decode_removed_xattr.Statement.{statement}
 use Rattle.block.proofs.xattr.decode_removed_xattr.Tie as tie
 

@@ -1,7 +1,7 @@
 -- Each field is what its reading gives; the name begins after the fixed fields and the value after the name.
 use borrow.Author.Needs.{needs}
 use Rattle.block.specs.Fields.{bodyLength}
-use Rattle.block.specs.Shown.{blockOf}
+use Rattle.block.specs.inner.Decoded.{blockOf}
 use Rattle.block.proofs.xattr.decode_xattr.Statement.{statement}
 use Rattle.block.proofs.xattr.decode_xattr.Tie as tie
 

@@ -4,7 +4,7 @@ use mathlib.Core.Bool.{Bool, true, false, not, cond}
 use mathlib.Core.Option.{Option}
 use mathlib.Core.List.{List}
 use Prim.Native.Nat.{ℕ}
-use Rattle.block.specs.Shown.{blockAt, decodedAt, timeOfBlock}
+use Rattle.block.specs.inner.Decoded.{blockAt, decodedAt, timeOfBlock}
 use Rattle.block.specs.declared.Block.{Block}
 use Rattle.block.specs.declared.Decoded.{Decoded}
 use Rattle.volume.specs.Reading.{asOption, mayFollow, markAfter}
