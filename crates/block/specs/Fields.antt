@@ -60,10 +60,7 @@ firstPart kind volume offset = record { offset = offset + fixedLength kind; len 
 
 abbrev pub secondPart : Kind → (volume : List ℕ) (offset : ℕ) → Part
 secondPart kind volume offset =
-    record {
-      offset = offset + fixedLength kind + fieldAt kind "n" volume offset;
-      len = fieldAt kind "m" volume offset;
-    }
+    record { offset = offset + fixedLength kind + fieldAt kind "n" volume offset; len = fieldAt kind "m" volume offset }
 
 -- the bytes of a part
 abbrev pub bytesOf : (volume : List ℕ) → Part → List ℕ

@@ -34,14 +34,7 @@ shown volume (Inode b) =
 shown volume (Link b) = format.Link (shownFields volume b)
 shown volume (Unlink b) = format.Unlink (shownFields volume b)
 shown volume (Xattr b) =
-    format.Xattr (
-    record {
-      time = b .time;
-      inode = b .number;
-      name = bytesOf volume (b .name);
-      value = bytesOf volume (b .value);
-    }
-    )
+    format.Xattr (record { time = b .time; inode = b .number; name = bytesOf volume (b .name); value = bytesOf volume (b .value) })
 shown volume (RemovedXattr b) =
     format.RemovedXattr (record { time = b .time; inode = b .number; name = bytesOf volume (b .name) })
 shown volume (Data b) = format.Data (record { time = b .time; payload = bytesOf volume (b .payload) })

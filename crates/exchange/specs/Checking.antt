@@ -15,11 +15,4 @@ checkNumbers (Accepted a) =
       time = timeNumber (a .end .last);
     }
 checkNumbers (Refused r) =
-    record {
-      refusal = r .refusal .number;
-      sequence = 0;
-      blocks = r .blocks;
-      offset = r .offset;
-      timed = 0;
-      time = 0;
-    }
+    record { refusal = r .refusal .number; sequence = 0; blocks = r .blocks; offset = r .offset; timed = 0; time = 0 }

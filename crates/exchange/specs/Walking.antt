@@ -36,14 +36,7 @@ blockNumbers (Refused r) = noBlock (r .number) 0
 -- a link, and where the next one begins
 unfoldable pub linkNumbers : LinkAnswer → LinkNumbers
 linkNumbers (Linked l) =
-    record {
-      missing = 0;
-      child = l .child;
-      parent = l .parent;
-      name = l .name;
-      namelen = l .len;
-      next = l .name + l .len;
-    }
+    record { missing = 0; child = l .child; parent = l .parent; name = l .name; namelen = l .len; next = l .name + l .len }
 linkNumbers Missing = record { missing = 1; child = 0; parent = 0; name = 0; namelen = 0; next = 0 }
 
 unfoldable pub extentNumbers : Extent → ExtentNumbers

@@ -1,3 +1,2 @@
 pub mod Requests
 pub mod Asking
-pub mod inner

@@ -1,5 +1,6 @@
 -- The checks of a block that an append is asked for, by itself, with no bookmark and no buffer:
 -- 9, 11 (link bytes), 10, 11 (inode), 12, 13. Each kind has those that can find a fault in it.
+use Prim.Native.Nat.{ℕ}
 use mathlib.Core.Bool.{not}
 use mathlib.Core.List.{List, [], _∷_}
 use lib.Dec.{ltb, eqb}
@@ -11,29 +12,23 @@ use Rattle.links.specs.Links.{linkStart}
 use Rattle.links.specs.inner.Tests.{someNameNotText, someLinkTwice}
 use Rattle.block.specs.Order.{tooLong, restOrder}
 
+-- a name of at most so many bytes, the largest value of its length field
+abbrev pub nameOrder : (most : ℕ) (name : List ℕ) → List Check
+nameOrder most name =
+    check (ltb most (length name)) 9
+    ∷ check (not (isText name)) 10
+    ∷ []
+
 -- 9: a regular file's list, a table, or a name, value or path longer than its length field; 11 (link bytes): they are not exactly
 -- the stated links; 10, 11 (inode) and 12 are those of reading
 abbrev pub requestOrder : Block → List Check
 requestOrder (Inode b) =
     check (tooLong (fileType (b .mode)) (length (b .rest))) 9
     ∷ restOrder (fileType (b .mode)) (b .size) (b .rest)
-requestOrder (Link b) =
-    check (ltb 65535 (length (b .name))) 9
-    ∷ check (not (isText (b .name))) 10
-    ∷ []
-requestOrder (Unlink b) =
-    check (ltb 65535 (length (b .name))) 9
-    ∷ check (not (isText (b .name))) 10
-    ∷ []
-requestOrder (Xattr b) =
-    check (ltb 65535 (length (b .value))) 9
-    ∷ check (ltb 255 (length (b .name))) 9
-    ∷ check (not (isText (b .name))) 10
-    ∷ []
-requestOrder (RemovedXattr b) =
-    check (ltb 255 (length (b .name))) 9
-    ∷ check (not (isText (b .name))) 10
-    ∷ []
+requestOrder (Link b) = nameOrder 65535 (b .name)
+requestOrder (Unlink b) = nameOrder 65535 (b .name)
+requestOrder (Xattr b) = check (ltb 65535 (length (b .value))) 9 ∷ nameOrder 255 (b .name)
+requestOrder (RemovedXattr b) = nameOrder 255 (b .name)
 requestOrder (Data b) = []
 requestOrder (Rename b) =
     check (ltb 65535 (length (b .old))) 9

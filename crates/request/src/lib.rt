@@ -12,9 +12,8 @@ use refusal::RULE_BROKEN;
 ghost use mathlib.Core.Path.{_≡_};
 ghost use Rattle.checks.specs.Checks.{firstFault};
 ghost use Rattle.format.specs.Blocks.{Inode, Link, Unlink, Xattr, RemovedXattr, Rename, Table};
-ghost use Rattle.request.specs.Requests.{requestOrder};
+ghost use Rattle.request.specs.Requests.{nameOrder, requestOrder};
 ghost use Rattle.request.specs.Asking.{Sized};
-ghost use Rattle.request.specs.inner.Parts.{nameOrder};
 
 // The most bytes of the name of an xattr: its length field is one byte wide.
 const XATTR_NAME_MOST: usize = 255;

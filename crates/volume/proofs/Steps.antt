@@ -15,7 +15,7 @@ use Rattle.volume.specs.Reading.{isEnd, readFault, nextMark, readAnswer}
 use Rattle.volume.specs.declared.Bookmark.{Bookmark}
 use Rattle.volume.specs.declared.Found.{Found}
 use Rattle.volume.specs.declared.ReadAnswer.{ReadAnswer}
-use Rattle.volume.specs.declared.ReadAnswer.the-variants.{Found as Block, End, Refused}
+use Rattle.volume.specs.declared.ReadAnswer.the-variants.{Found as Handed, End, Refused}
 use Rattle.volume.proofs.Passed.{read-passed}
 
 -- the block at a bookmark and the bookmark after it
@@ -25,7 +25,7 @@ foundAt volume mark = record { block = blockAt volume (mark .offset); next = nex
 -- the three answers of a reading, each with its reason
 pub data Answers (volume : List ℕ) (mark : Bookmark) : ReadAnswer → Type 0 where
   ends : isEnd volume mark ≡ true → Answers volume mark End
-  finds : isEnd volume mark ≡ false → readFault volume mark ≡ 0 → Answers volume mark (Block (foundAt volume mark))
+  finds : isEnd volume mark ≡ false → readFault volume mark ≡ 0 → Answers volume mark (Handed (foundAt volume mark))
   refuses : isEnd volume mark ≡ false → (readFault volume mark ≡ 0 → ⊥) → Answers volume mark (Refused (refusalOf (readFault volume mark)))
 
 pub answers : (volume : List ℕ) (mark : Bookmark) → Answers volume mark (readAnswer volume mark)
@@ -33,7 +33,7 @@ unfolding readAnswer
 answers volume mark = go (isEnd volume mark) refl (eqb (readFault volume mark) 0) refl
   where
     go : (end : Bool) → isEnd volume mark ≡ end → (sound : Bool) → eqb (readFault volume mark) 0 ≡ sound
-        → Answers volume mark (cond end End (cond sound (Block (foundAt volume mark)) (Refused (refusalOf (readFault volume mark)))))
+        → Answers volume mark (cond end End (cond sound (Handed (foundAt volume mark)) (Refused (refusalOf (readFault volume mark)))))
     go true p sound q = ends p
     go false p true q = finds p (eqb-true _ _ q)
     go false p false q = refuses p (eqb-false _ _ q)
@@ -49,7 +49,7 @@ module _ (volume : List ℕ) (mark : Bookmark) where
   unfolding readAnswer
   refusal-read fault e f n = rw (e, f, ne-eqb fault 0 n)
 
-  pub found-read : isEnd volume mark ≡ false → readFault volume mark ≡ 0 → Block (foundAt volume mark) ≡ readAnswer volume mark
+  pub found-read : isEnd volume mark ≡ false → readFault volume mark ≡ 0 → Handed (foundAt volume mark) ≡ readAnswer volume mark
   unfolding readAnswer
   found-read e f = rw (e, eq-eqb (readFault volume mark) 0 f)
 
@@ -60,11 +60,11 @@ sound-further volume mark e =
     let own = read-passed volume mark e .block .own in
     (omega arith, kind-passed volume (mark .offset) (kindAt volume (mark .offset)) own .whole)
 
-pub read-further : (volume : List ℕ) (mark : Bookmark) (found : Found) → readAnswer volume mark ≡ Block found
+pub read-further : (volume : List ℕ) (mark : Bookmark) (found : Found) → readAnswer volume mark ≡ Handed found
     → (mark .offset < found .next .offset) × (found .next .offset ≤ length volume)
 read-further volume mark found e = go (answers volume mark) e
   where
-    go : {a : ReadAnswer} → Answers volume mark a → a ≡ Block found
+    go : {a : ReadAnswer} → Answers volume mark a → a ≡ Handed found
         → (mark .offset < found .next .offset) × (found .next .offset ≤ length volume)
     go (ends p) q = let z : _≡_ {A = ℕ} 0 1 = cc in absurd (omega arith)
     go (finds p f) q = let s : foundAt volume mark ≡ found = cc in rw (← s) (sound-further volume mark f)

@@ -1,5 +1,6 @@
--- The ways back from the numbers of the boundary to the answers. What matters is that each answer has one, not which it is:
--- it gives back what was answered, for every answer that the calls can give (`Crossing`).
+-- Inner page: the ways back from the numbers of the boundary to the answers. What matters is that each answer has one, not which it
+-- is: it gives back what was answered, for every answer that the calls can give.
+-- Joined to Crossing of exchange/Crossing by everything-crosses.
 use Prim.Native.Nat.{ℕ}
 use mathlib.Core.Bool.{cond}
 use lib.Dec.{eqb}

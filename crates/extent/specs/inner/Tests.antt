@@ -1,5 +1,5 @@
 -- Inner page: the rules on extents as tests, for one extent and for a list.
--- Joined to ExtentRules of format/Extents by sound-rules, rules-sound.
+-- Joined to ExtentRules of format/Extents by sound-rules, rules-sound, each-sound.
 -- Joined to ExtentsOf of format/Blocks by list-sound, list-complete.
 use Prim.Native.Nat.{ℕ, _+_, min, max}
 use mathlib.Core.Bool.{Bool, not, _&&_, _||_}

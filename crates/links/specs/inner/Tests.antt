@@ -1,5 +1,5 @@
 -- Inner page: the rules on the links of a table as tests.
--- Joined to LinksOf of format/Blocks by links-sound, links-complete.
+-- Joined to LinkRules, Distinct, LinksOf of format/Blocks by names-are-texts, links-are-distinct, links-sound, links-complete.
 use Prim.Native.Nat.{ℕ}
 use mathlib.Core.Bool.{Bool, not, _&&_}
 use mathlib.Core.List.{List}

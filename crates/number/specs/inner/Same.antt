@@ -1,4 +1,5 @@
--- Inner page: bytes compared. The test says whether they are equal (`same-iff-equal` in proofs/Same.antt).
+-- Inner page: bytes compared.
+-- Joined to equality by same-iff-equal.
 use Prim.Native.Nat.{ℕ}
 use mathlib.Core.Bool.{Bool, true, false, _&&_}
 use mathlib.Core.List.{List, [], _∷_}
