@@ -42,10 +42,8 @@ abbrev pub widths : Kind → List ℕ
 widths kind = widthsIn (layout kind)
 
 -- a link of a table: these fields and a name of m bytes
-pub record TableLink : Type 0 where
-  pub child : ℕ
-  pub parent : ℕ
-  pub name : List ℕ
+abbrev pub TableLink : Type 0
+TableLink = record { child : ℕ; parent : ℕ; name : List ℕ }
 
 abbrev pub linkLayout : List Field
 linkLayout = field "child" 8 ∷ field "parent" 8 ∷ field "m" 2 ∷ []
@@ -64,49 +62,28 @@ linkList [] = []
 linkList (link ∷ links) = linkImage link ++ linkList links
 
 -- What stands in a block of each kind. An inode's n bytes are a target or a list of extents.
-pub record InodeFields : Type 0 where
-  pub inode : ℕ
-  pub time : ℕ
-  pub mode : ℕ
-  pub uid : ℕ
-  pub gid : ℕ
-  pub atime : ℕ
-  pub mtime : ℕ
-  pub ctime : ℕ
-  pub btime : ℕ
-  pub size : ℕ
-  pub rest : List ℕ
+abbrev pub InodeFields : Type 0
+InodeFields =
+    record { inode : ℕ; time : ℕ; mode : ℕ; uid : ℕ; gid : ℕ; atime : ℕ; mtime : ℕ; ctime : ℕ; btime : ℕ; size : ℕ; rest : List ℕ }
 
-pub record LinkFields : Type 0 where
-  pub time : ℕ
-  pub child : ℕ
-  pub parent : ℕ
-  pub name : List ℕ
+abbrev pub LinkFields : Type 0
+LinkFields = record { time : ℕ; child : ℕ; parent : ℕ; name : List ℕ }
 
-pub record XattrFields : Type 0 where
-  pub time : ℕ
-  pub inode : ℕ
-  pub name : List ℕ
-  pub value : List ℕ
+abbrev pub XattrFields : Type 0
+XattrFields = record { time : ℕ; inode : ℕ; name : List ℕ; value : List ℕ }
 
-pub record RemovedXattrFields : Type 0 where
-  pub time : ℕ
-  pub inode : ℕ
-  pub name : List ℕ
+abbrev pub RemovedXattrFields : Type 0
+RemovedXattrFields = record { time : ℕ; inode : ℕ; name : List ℕ }
 
-pub record DataFields : Type 0 where
-  pub time : ℕ
-  pub payload : List ℕ
+abbrev pub DataFields : Type 0
+DataFields = record { time : ℕ; payload : List ℕ }
 
-pub record RenameFields : Type 0 where
-  pub time : ℕ
-  pub old : List ℕ
-  pub new : List ℕ
+abbrev pub RenameFields : Type 0
+RenameFields = record { time : ℕ; old : List ℕ; new : List ℕ }
 
 -- the bytes of the links, one after the other
-pub record TableFields : Type 0 where
-  pub count : ℕ
-  pub links : List ℕ
+abbrev pub TableFields : Type 0
+TableFields = record { count : ℕ; links : List ℕ }
 
 -- a block, as it stands in a volume and as an append is asked for it
 pub data Block : Type 0 where
