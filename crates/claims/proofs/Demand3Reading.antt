@@ -10,7 +10,7 @@ use Rattle.number.proofs.Parts.{drop-past}
 use Rattle.format.specs.Blocks.{Block}
 use Rattle.format.specs.Headers.{Header, headerImage}
 use Rattle.format.specs.Readings.{Reading, Keeps, images, volumeOf, ReadingOf, HasReading}
-use Rattle.volume.specs.Heading.{headerBytes, sequenceOf, headerFault, firstMark, headerAnswer, partAnswer}
+use Rattle.volume.specs.Heading.{headerBytes, sequenceOf, headerFault, firstMark, headerAnswer}
 use Rattle.volume.specs.Checking.{Checked, refused-at-the-header, after-the-header}
 use Rattle.volume.specs.inner.Check.{checkAnswer}
 use Rattle.volume.specs.declared.Bookmark.{Bookmark}
@@ -45,7 +45,6 @@ pub record Given (volume : List ℕ) (reading : Reading) (end : Bookmark) : Type
   pub calls : Calls ours volume (firstMark (sequenceOf volume)) (reading .blocks) end
 
 pub given : (volume : List ℕ) (reading : Reading) (end : Bookmark) → ReaderGives ours volume reading end → Given volume reading end
-unfolding partAnswer
 given volume reading end g =
     let h = header-given volume _ (g .header) in
     let sequence : sequenceOf volume ≡ reading .header .sequence = ap (λ a. a .sequence) (h .1) in
@@ -83,7 +82,7 @@ gives-reading volume reading end b g =
 -- and a reading is what it gives
 pub reading-gives : (volume : List ℕ) (reading : Reading) → length volume ≤ 16777216 → ReadingOf volume reading
     → ReaderGives ours volume reading (afterAll (firstMark (reading .header .sequence)) (reading .blocks))
-unfolding volumeOf headerAnswer partAnswer
+unfolding volumeOf headerAnswer
 reading-gives volume reading small r =
     let header : Header = reading .header in
     let k : Keeps reading = r .keeps in

@@ -25,7 +25,7 @@ use Rattle.block.specs.Shown.{shown}
 use Rattle.block.specs.declared.TableBlock.{TableBlock}
 use Rattle.block.specs.declared.Block.{Block}
 use Rattle.block.specs.declared.Block.the-variants.{Inode, Link, Unlink, Xattr, RemovedXattr, Data, Rename, Table}
-use Rattle.volume.specs.Heading.{sequenceOf, headerFault, firstMark, headerAnswer, partAnswer}
+use Rattle.volume.specs.Heading.{sequenceOf, headerFault, firstMark, headerAnswer}
 use Rattle.volume.specs.Reading.{readFault, nextMark, readAnswer}
 use Rattle.volume.specs.inner.Check.{checkAnswer}
 use Rattle.volume.specs.Writing.{writeFault, writeAnswer, appendFault, appendAnswer}
@@ -95,7 +95,7 @@ header-crosses volume = go (header-answers volume)
 fields-told : (volume : List ℕ) → headingNumbers (headerAnswer volume) .refusal ≡ 0
     → FieldTold "file system ID" volume (headingNumbers (headerAnswer volume) .id)
     × FieldTold "previous hash" volume (headingNumbers (headerAnswer volume) .previous)
-unfolding headingNumbers partAnswer
+unfolding headingNumbers
 fields-told volume = go (header-answers volume)
   where
     go : {a : HeaderAnswer} → HeaderAnswers volume a → headingNumbers a .refusal ≡ 0

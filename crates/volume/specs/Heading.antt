@@ -63,17 +63,10 @@ headerAnswer volume =
     (Accepted (record { sequence = sequenceOf volume; next = firstMark (sequenceOf volume) }))
     (Refused (refusalOf (headerFault volume)))
 
--- a part that a sound header hands out; nothing where it is refused
-unfoldable pub partAnswer : (volume : List ℕ) (offset len : ℕ) → List ℕ
-partAnswer volume offset len = cond (eqb (headerFault volume) 0) (part volume offset len) []
-
--- and where it begins, by where the volume does; the empty part begins at the volume's beginning
-unfoldable pub partAddress : (volume : List ℕ) (whole : Address) (offset : ℕ) → Address
-partAddress volume whole offset = addressIn whole (cond (eqb (headerFault volume) 0) offset 0)
-
--- the same of a field, by its name
+-- the bytes of a field that a sound header hands out; nothing where it is refused
 abbrev pub fieldAnswer : (name : String) (volume : List ℕ) → List ℕ
-fieldAnswer name volume = partAnswer volume (startOf name headerLayout) (widthOf name headerLayout)
+fieldAnswer name volume = cond (eqb (headerFault volume) 0) (headerBytes name volume) []
 
+-- and where they begin, by where the volume does; the empty part begins at the volume's beginning
 abbrev pub fieldAddress : (name : String) (volume : List ℕ) (whole : Address) → Address
-fieldAddress name volume whole = partAddress volume whole (startOf name headerLayout)
+fieldAddress name volume whole = addressIn whole (cond (eqb (headerFault volume) 0) (startOf name headerLayout) 0)

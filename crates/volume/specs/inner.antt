@@ -1,3 +1,4 @@
 pub mod Walk
 pub mod Check
 pub mod Asked
+pub mod Handed

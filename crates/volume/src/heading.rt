@@ -20,7 +20,8 @@ ghost use Prim.Native.Nat.{_-_, _≤_};
 ghost use lib.ListN.{length};
 ghost use Rattle.checks.specs.Checks.{firstFault};
 ghost use Rattle.volume.specs.Heading.{hashWrong, fieldOrder, headerFault, firstMark, headerAnswer};
-ghost use Rattle.volume.specs.Heading.{partAnswer, partAddress, fieldAnswer, fieldAddress};
+ghost use Rattle.volume.specs.Heading.{fieldAnswer, fieldAddress};
+ghost use Rattle.volume.specs.inner.Handed.{partAnswer, partAddress};
 ghost use Rattle.volume.specs.Writing.{SizedHeader, writeFault, writeAnswer, writeBuffer};
 
 // The lengths of a file system ID and of a hash.

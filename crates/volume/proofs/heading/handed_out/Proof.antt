@@ -2,7 +2,6 @@
 use Prim.Native.Nat.{ℕ}
 use mathlib.Core.Path.{refl, sym, ap, _∙_}
 use borrow.Author.Tests.{eq-eqb, ne-eqb}
-use Rattle.volume.specs.Heading.{partAnswer, partAddress}
 use Rattle.volume.proofs.Whole.{header-length}
 use native.Mathlib.Omega.{arith}
 use borrow.Author.Needs.{needs}
@@ -22,7 +21,6 @@ part-result-end : tie.Need-part-result-end
 part-result-end c = search needs
 
 returns : tie.Need-returns
-unfolding partAnswer partAddress
 returns c =
     rw (← c .before .before .header-fault .ensures, ne-eqb _ _ (c .before .if1 .taken))
     (refl, ap (λ (n : ℕ). (c .before .before .before .before .args .volume .ptr .0, n)) (omega arith))
@@ -37,7 +35,6 @@ part-result-end-2 : tie.Need-part-result-end-2
 part-result-end-2 c = omega (arith, header-length _ (sym (c .before .header-fault .ensures) ∙ c .if1 .left))
 
 returns-2 : tie.Need-returns-2
-unfolding partAnswer partAddress
 returns-2 c =
     rw (← c .before .before .header-fault .ensures, eq-eqb _ _ (c .before .if1 .left))
     (refl, ap (λ (n : ℕ). (c .before .before .before .before .args .volume .ptr .0, n)) (omega arith))
