@@ -1,13 +1,13 @@
 -- Where the fields and the variable parts of a block stand, by its kind's layout, and what they hold.
 use Prim.Native.Nat.{ℕ, suc, _+_}
 use Prim.Native.String.{String}
-use mathlib.Core.Bool.{cond}
+use mathlib.Core.Bool.{Bool, true, false, cond}
 use mathlib.Core.List.{List}
 use lib.Dec.{eqb}
 use lib.ListN.{drop}
 use Rattle.number.specs.Number.{numberAt, part}
 use Rattle.format.specs.Layout.{startOf, widthOf, total}
-use Rattle.format.specs.Blocks.{Kind, inodeBlock, linkBlock, unlinkBlock, xattrBlock, removedXattrBlock, dataBlock, renameBlock, linkTable, layout, widths, FileType, fileType}
+use Rattle.format.specs.Blocks.{Kind, inodeBlock, linkBlock, unlinkBlock, xattrBlock, removedXattrBlock, dataBlock, renameBlock, linkTable, layout, widths, FileType, regular, symbolicLink, other, fileType}
 use Rattle.links.specs.Links.{linkStart}
 use Rattle.block.specs.declared.Part.{Part}
 
@@ -65,6 +65,11 @@ secondPart kind volume offset =
 -- the bytes of a part
 abbrev pub bytesOf : (volume : List ℕ) → Part → List ℕ
 bytesOf volume p = part volume (p .offset) (p .len)
+
+abbrev pub isRegular : FileType → Bool
+isRegular regular = true
+isRegular symbolicLink = false
+isRegular other = false
 
 -- an inode's file type, size and n bytes
 abbrev pub typeAt : (volume : List ℕ) (offset : ℕ) → FileType

@@ -2,7 +2,7 @@
 -- 1, 8 (below 80), 2 (offset or nothing left), 7, 8, 2 (fixed fields), 9, 2 (rest), 5, 10, 11, 12, 13;
 -- each kind has those of its checks that can find a fault.
 use Prim.Native.Nat.{ℕ, _+_, _-_, _%_}
-use mathlib.Core.Bool.{Bool, false, not, _||_, Bool·beq}
+use mathlib.Core.Bool.{Bool, not, _&&_, _||_, Bool·beq}
 use mathlib.Core.List.{List, [], _∷_}
 use lib.Dec.{leb, ltb, eqb}
 use lib.ListN.{length, drop}
@@ -13,7 +13,7 @@ use Rattle.utf8.specs.inner.Length.{isText}
 use Rattle.format.specs.Blocks.{Kind, inodeBlock, linkBlock, unlinkBlock, xattrBlock, removedXattrBlock, dataBlock, renameBlock, linkTable, FileType, regular, symbolicLink, other}
 use Rattle.extent.specs.inner.Tests.{someBroken, someOverlap}
 use Rattle.links.specs.inner.Tests.{someNameNotText, someLinkTwice}
-use Rattle.block.specs.Fields.{idAt, kindAt, fixedLength, fieldAt, bodyEnd, firstPart, secondPart, bytesOf, typeAt, sizeAt, restAt}
+use Rattle.block.specs.Fields.{idAt, kindAt, fixedLength, fieldAt, bodyEnd, firstPart, secondPart, bytesOf, isRegular, typeAt, sizeAt, restAt}
 use Rattle.block.specs.declared.Part.{Part}
 
 -- the most bytes that a volume may have
@@ -34,9 +34,7 @@ fixedFieldsCut kind volume offset = ltb (length volume) (offset + fixedLength ki
 
 -- 9: n of a regular file above that of 1,024 extents; other files have no such limit
 abbrev pub tooLong : FileType → (n : ℕ) → Bool
-tooLong regular n = ltb 58368 n
-tooLong symbolicLink n = false
-tooLong other n = false
+tooLong type n = isRegular type && ltb 58368 n
 
 -- 2 (rest): the bytes end within the variable parts or the CRC, which begins at `end`
 abbrev pub restCut : (volume : List ℕ) (end : ℕ) → Bool
@@ -57,14 +55,8 @@ restOrder regular size rest =
     ∷ check (someBroken rest) 11
     ∷ check (someOverlap rest) 12
     ∷ []
-restOrder symbolicLink size rest =
-    check (not (isText rest)) 10
-    ∷ check (not (eqb size (70 + length rest))) 11
-    ∷ []
-restOrder other size rest =
-    check (not (eqb (length rest) 0)) 11
-    ∷ check (not (eqb size 70)) 11
-    ∷ []
+restOrder symbolicLink size rest = check (not (isText rest)) 10 ∷ check (not (eqb size (70 + length rest))) 11 ∷ []
+restOrder other size rest = check (not (eqb (length rest) 0)) 11 ∷ check (not (eqb size 70)) 11 ∷ []
 
 -- a block whose variable parts begin with a name: 2 (fixed fields), 2 (rest), 5, 10
 abbrev pub namedOrder : Kind → (volume : List ℕ) (offset : ℕ) → List Check

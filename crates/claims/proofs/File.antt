@@ -2,7 +2,7 @@
 -- block stands there by the format and its extents that keep something lie within the volumes that they name. Assumes nothing.
 use Prim.Native.Nat.{ℕ, _+_, _*_, _%_, _≤_, _<_}
 use mathlib.Core.Path.{_≡_, refl, sym, ap, _∙_}
-use mathlib.Core.Bool.{false, not, and-false}
+use mathlib.Core.Bool.{false, not, and-false, _&&_}
 use mathlib.Core.List.{List, [], _∷_, _++_}
 use mathlib.Mathlib.Data.Bool.Basic.{or-eq-false-eq-eq-false-and-eq-false as both-false}
 use native.Mathlib.Nat.{add-zero}
@@ -25,7 +25,7 @@ use Rattle.format.proofs.Fields.{laid-values}
 use Rattle.extent.specs.Extents.{extentAt}
 use Rattle.extent.proofs.Sound.{each-sound, sound-rules}
 use Rattle.extent.proofs.ListRules.{fields-stand, fields-fit}
-use Rattle.block.specs.Fields.{idAt, kindWith, kindAt, fixedLength, fieldAt, bodyLength, typeAt, sizeAt, restAt}
+use Rattle.block.specs.Fields.{idAt, kindWith, kindAt, fixedLength, fieldAt, bodyLength, isRegular, typeAt, sizeAt, restAt}
 use Rattle.block.specs.Order.{unknownId, wrongPlace, kindOrder, blockOrder}
 use Rattle.block.specs.inner.Decoded.{blockOf}
 use Rattle.block.specs.Shown.{shown}
@@ -33,7 +33,7 @@ use Rattle.format.proofs.Images.{length-image}
 use Rattle.block.proofs.Ids.{id-known, kind-known}
 use Rattle.block.proofs.Passed.{block-numbered, passed-block}
 use Rattle.block.proofs.BlockImage.{Stands, block-sound, Reads, block-complete}
-use Rattle.lookup.specs.Lookup.{entryCount, lengthOf, lengthsWrong, notFile, isFile, isAbsent, someAbsent, openOrder, extentsOrder, lookupFault}
+use Rattle.lookup.specs.Lookup.{entryCount, lengthOf, lengthsWrong, notFile, isAbsent, someAbsent, openOrder, extentsOrder, lookupFault}
 use Rattle.lookup.proofs.Deciding.{open-numbered}
 use Rattle.lookup.proofs.Clear.{RegularFile, Clear, each-present, present}
 use Rattle.lookup.proofs.Stray.{none-stray}
@@ -173,7 +173,7 @@ module _ (volume : List ℕ) (offset : ℕ) (lengths : List ℕ) (m : AllIsThere
       let known : unknownId (idAt volume offset) ≡ false = rw id in
       let place : wrongPlace false (idAt volume offset) ≡ false = rw id in
       let own : firstFault (kindOrder (kindAt volume offset) volume offset) ≡ 0 = rw kind-is (reads .no-fault) in
-      let file : not (isFile (kindAt volume offset) (typeAt volume offset)) ≡ false = rw (kind-is, type-is) in
+      let file : not (eqb (idAt volume offset) 1 && isRegular (typeAt volume offset)) ≡ false = rw (id, type-is) in
       let block-clear : firstFault (blockOrder volume offset false) ≡ 0
       = passed-block volume offset false
       (record { small = m .small; base = m .after-the-header; more = more; known = known; place = place; own = own }) in

@@ -1,7 +1,7 @@
 -- What a lookup that is not refused knows: the block is the inode of a regular file, its extents keep their rules, and what
 -- they name is there. Assumes nothing.
 use Prim.Native.Nat.{ℕ, _+_, _%_, _≤_, _<_}
-use mathlib.Core.Path.{_≡_, refl, subst}
+use mathlib.Core.Path.{_≡_, refl, ap, subst, _∙_}
 use mathlib.Core.Bool.{true, false, false≢true, not}
 use mathlib.Mathlib.Data.Bool.Basic.{or-eq-false-eq-eq-false-and-eq-false as both-false}
 use mathlib.Core.List.{List}
@@ -9,6 +9,7 @@ use native.Mathlib.Omega.{arith}
 use lib.Dec.{leb, eqb}
 use lib.ListN.{length}
 use borrow.Author.Tests.{lt-ltb, ltb-false, leb-false, eqb-true, not-false}
+use Rattle.number.proofs.Same.{and-true}
 use Rattle.number.proofs.Parts.{length-part}
 use Rattle.checks.specs.Checks.{firstFault}
 use Rattle.checks.proofs.Laws.{passed}
@@ -16,13 +17,14 @@ use Rattle.checks.proofs.Cleared.{rest-clear, both-clear}
 use Rattle.checks.proofs.Scan.{any-false}
 use Rattle.format.specs.declared.Extent.{Extent}
 use Rattle.format.specs.Extents.{keptLength, footprint}
-use Rattle.format.specs.Blocks.{Kind, inodeBlock, linkBlock, unlinkBlock, xattrBlock, removedXattrBlock, dataBlock, renameBlock, linkTable, FileType, regular, symbolicLink, other}
+use Rattle.format.specs.Blocks.{inodeBlock, FileType, regular, symbolicLink, other}
 use Rattle.extent.specs.Extents.{extentAt, extentCount}
 use Rattle.extent.specs.inner.Tests.{someBroken, someOverlap}
-use Rattle.block.specs.Fields.{kindAt, fixedLength, fieldAt, typeAt, sizeAt, restAt, bodyLength, bodyEnd}
+use Rattle.block.specs.Fields.{idAt, kindWith, kindAt, fixedLength, fieldAt, isRegular, typeAt, sizeAt, restAt, bodyLength, bodyEnd}
 use Rattle.block.specs.Order.{kindOrder, blockOrder}
+use Rattle.block.proofs.Ids.{kind-known}
 use Rattle.block.proofs.Passed.{ListPassed, RestPassed, kind-passed, BlockPassed, block-numbered, block-passed}
-use Rattle.lookup.specs.Lookup.{entryCount, lengthOf, lengthsWrong, isFile, notFile, isAbsent, someAbsent, openOrder, lookupFault}
+use Rattle.lookup.specs.Lookup.{entryCount, lengthOf, lengthsWrong, notFile, isAbsent, someAbsent, openOrder, lookupFault}
 use Rattle.lookup.proofs.Deciding.{open-numbered}
 
 -- a sound block that is the inode of a regular file
@@ -49,24 +51,25 @@ pub record Clear (volume : List ℕ) (offset : ℕ) (lengths : List ℕ) : Type 
   pub opening : Opened volume offset lengths
   pub none-absent : someAbsent lengths (restAt volume offset) ≡ false
 
-is-file : (kind : Kind) (type : FileType) → isFile kind type ≡ true → (kind ≡ inodeBlock) × (type ≡ regular)
-is-file inodeBlock regular e = (refl, refl)
-is-file inodeBlock symbolicLink e = absurd (false≢true e)
-is-file inodeBlock other e = absurd (false≢true e)
-is-file linkBlock type e = absurd (false≢true e)
-is-file unlinkBlock type e = absurd (false≢true e)
-is-file xattrBlock type e = absurd (false≢true e)
-is-file removedXattrBlock type e = absurd (false≢true e)
-is-file dataBlock type e = absurd (false≢true e)
-is-file renameBlock type e = absurd (false≢true e)
-is-file linkTable type e = absurd (false≢true e)
+is-regular : (type : FileType) → isRegular type ≡ true → type ≡ regular
+is-regular regular e = refl
+is-regular symbolicLink e = absurd (false≢true e)
+is-regular other e = absurd (false≢true e)
+
+-- by the ID and the file type
+is-file : (volume : List ℕ) (offset : ℕ) → notFile volume offset ≡ false
+    → (kindAt volume offset ≡ inodeBlock) × (typeAt volume offset ≡ regular)
+unfolding notFile
+is-file volume offset n =
+    let f = and-true (eqb (idAt volume offset) 1) (isRegular (typeAt volume offset)) (not-false _ n) in
+    (ap kindWith (eqb-true _ _ (f .0)) ∙ kind-known inodeBlock .0, is-regular (typeAt volume offset) (f .1))
 
 -- the checks of the block and of its kind and file type tell all of that
 regular-file : (volume : List ℕ) (offset : ℕ) → firstFault (blockOrder volume offset false) ≡ 0 → notFile volume offset ≡ false
     → RegularFile volume offset
-unfolding notFile bodyLength
+unfolding bodyLength
 regular-file volume offset e n =
-    let f = is-file (kindAt volume offset) (typeAt volume offset) (not-false _ n) in
+    let f = is-file volume offset n in
     let p = block-passed volume offset false e in
     let c : firstFault (kindOrder inodeBlock volume offset) ≡ 0 = rw (f .0) at (p .own) in
     let k = kind-passed volume offset inodeBlock c in

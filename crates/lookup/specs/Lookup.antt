@@ -1,6 +1,6 @@
 -- What a position lookup and a range query answer.
 use Prim.Native.Nat.{ℕ, _+_, _*_, _/_, _%_}
-use mathlib.Core.Bool.{Bool, true, false, not, _&&_, _||_}
+use mathlib.Core.Bool.{Bool, false, not, _&&_, _||_}
 use mathlib.Core.List.{List, [], _∷_, _++_}
 use lib.Dec.{leb, ltb, eqb}
 use lib.ListN.{length}
@@ -9,9 +9,9 @@ use Rattle.checks.specs.Checks.{Check, check, firstFault}
 use Rattle.checks.specs.Scan.{anyBelow}
 use Rattle.format.specs.declared.Extent.{Extent}
 use Rattle.format.specs.Extents.{keptLength, footprint}
-use Rattle.format.specs.Blocks.{Kind, inodeBlock, idOf, FileType, regular, symbolicLink, other}
+use Rattle.format.specs.Blocks.{inodeBlock, idOf}
 use Rattle.extent.specs.Extents.{extentAt, extentCount}
-use Rattle.block.specs.Fields.{kindAt, typeAt, sizeAt, restAt}
+use Rattle.block.specs.Fields.{idAt, isRegular, typeAt, sizeAt, restAt}
 use Rattle.block.specs.Order.{blockOrder}
 use Rattle.runs.specs.inner.Computed.{runCount}
 
@@ -26,18 +26,9 @@ lengthOf lengths volume = numberAt lengths (8 * volume) 8
 unfoldable pub lengthsWrong : (lengths : List ℕ) → Bool
 lengthsWrong lengths = not (eqb (length lengths % 8) 0) || ltb 4096 (entryCount lengths)
 
-abbrev pub isRegular : FileType → Bool
-isRegular regular = true
-isRegular symbolicLink = false
-isRegular other = false
-
--- whether a block of this kind and file type is a regular file's inode
-abbrev pub isFile : Kind → FileType → Bool
-isFile kind type = eqb (idOf kind) (idOf inodeBlock) && isRegular type
-
 -- 15: the block isn't a regular file's inode
 unfoldable pub notFile : (volume : List ℕ) (offset : ℕ) → Bool
-notFile volume offset = not (isFile (kindAt volume offset) (typeAt volume offset))
+notFile volume offset = not (eqb (idAt volume offset) (idOf inodeBlock) && isRegular (typeAt volume offset))
 
 -- an extent that keeps something and names no entry, or a place that reaches beyond that volume's length
 unfoldable pub isAbsent : (lengths : List ℕ) → Extent → Bool
