@@ -16,8 +16,7 @@ shownFields volume b =
 -- the block that the fields and parts show
 unfoldable pub shown : (volume : List ℕ) → Block → format.Block
 shown volume (Inode b) =
-    format.Inode (
-    record {
+    format.Inode (record {
       inode = b .number;
       time = b .time;
       mode = b .mode;
@@ -29,8 +28,7 @@ shown volume (Inode b) =
       btime = b .btime;
       size = b .size;
       rest = bytesOf volume (b .rest);
-    }
-    )
+    })
 shown volume (Link b) = format.Link (shownFields volume b)
 shown volume (Unlink b) = format.Unlink (shownFields volume b)
 shown volume (Xattr b) =

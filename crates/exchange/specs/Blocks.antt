@@ -36,33 +36,32 @@ partWith index parts = getD parts index (record { offset = 0; len = 0 })
 
 -- the numbers of an answer: the bookmark after the block, the block's fields by name, and the places of its parts
 abbrev pub numbersWith : (refusal end id : ℕ) (next : Bookmark) (value : String → ℕ) (parts : List Part) → BlockNumbers
-numbersWith refusal end id next value parts =
-    record {
-      refusal = refusal;
-      end = end;
-      id = id;
-      next = next .offset;
-      due = flagNumber (next .due);
-      timed = timedNumber (next .last);
-      last = timeNumber (next .last);
-      time = value "time";
-      inode = value "inode";
-      child = value "child";
-      parent = value "parent";
-      mode = value "mode";
-      uid = value "uid";
-      gid = value "gid";
-      atime = value "atime";
-      mtime = value "mtime";
-      ctime = value "ctime";
-      btime = value "btime";
-      size = value "size";
-      count = value "link count";
-      part = partWith 0 parts .offset;
-      partlen = partWith 0 parts .len;
-      second = partWith 1 parts .offset;
-      secondlen = partWith 1 parts .len;
-    }
+numbersWith refusal end id next value parts = record {
+  refusal = refusal;
+  end = end;
+  id = id;
+  next = next .offset;
+  due = flagNumber (next .due);
+  timed = timedNumber (next .last);
+  last = timeNumber (next .last);
+  time = value "time";
+  inode = value "inode";
+  child = value "child";
+  parent = value "parent";
+  mode = value "mode";
+  uid = value "uid";
+  gid = value "gid";
+  atime = value "atime";
+  mtime = value "mtime";
+  ctime = value "ctime";
+  btime = value "btime";
+  size = value "size";
+  count = value "link count";
+  part = partWith 0 parts .offset;
+  partlen = partWith 0 parts .len;
+  second = partWith 1 parts .offset;
+  secondlen = partWith 1 parts .len;
+}
 
 -- a block and the bookmark after it
 unfoldable pub foundNumbers : Block → (next : Bookmark) → BlockNumbers

@@ -5,14 +5,13 @@ use Rattle.exchange.specs.Marks.{timedNumber, timeNumber}
 use Rattle.exchange.specs.declared.CheckNumbers.{CheckNumbers}
 
 unfoldable pub checkNumbers : Verdict → CheckNumbers
-checkNumbers (Accepted a) =
-    record {
-      refusal = 0;
-      sequence = a .sequence;
-      blocks = a .blocks;
-      offset = a .end .offset;
-      timed = timedNumber (a .end .last);
-      time = timeNumber (a .end .last);
-    }
+checkNumbers (Accepted a) = record {
+  refusal = 0;
+  sequence = a .sequence;
+  blocks = a .blocks;
+  offset = a .end .offset;
+  timed = timedNumber (a .end .last);
+  time = timeNumber (a .end .last);
+}
 checkNumbers (Refused r) =
     record { refusal = r .refusal .number; sequence = 0; blocks = r .blocks; offset = r .offset; timed = 0; time = 0 }

@@ -8,8 +8,7 @@ use Rattle.exchange.specs.declared.SourceNumbers.{SourceNumbers}
 
 -- 0: the first volume has the number, 1: the second; on refusal 0
 unfoldable pub sourceOf : (first second : List ℕ) (number offset len : ℕ) → SourceNumbers
-sourceOf first second number offset len =
-    record {
-      refusal = fetchFault first second number offset len;
-      which = cond (eqb (fetchFault first second number offset len) 0) (whichever first second number 0 1 0) 0;
-    }
+sourceOf first second number offset len = record {
+  refusal = fetchFault first second number offset len;
+  which = cond (eqb (fetchFault first second number offset len) 0) (whichever first second number 0 1 0) 0;
+}

@@ -17,15 +17,14 @@ use Rattle.exchange.specs.declared.LinkNumbers.{LinkNumbers}
 use Rattle.exchange.specs.declared.ExtentNumbers.{ExtentNumbers}
 
 unfoldable pub headingNumbers : HeaderAnswer → HeadingNumbers
-headingNumbers (Accepted h) =
-    record {
-      refusal = 0;
-      sequence = h .sequence;
-      next = h .next .offset;
-      due = flagNumber (h .next .due);
-      id = startOf "file system ID" headerLayout;
-      previous = startOf "previous hash" headerLayout;
-    }
+headingNumbers (Accepted h) = record {
+  refusal = 0;
+  sequence = h .sequence;
+  next = h .next .offset;
+  due = flagNumber (h .next .due);
+  id = startOf "file system ID" headerLayout;
+  previous = startOf "previous hash" headerLayout;
+}
 headingNumbers (Unsound r) = record { refusal = r .number; sequence = 0; next = 0; due = 0; id = 0; previous = 0 }
 
 unfoldable pub blockNumbers : ReadAnswer → BlockNumbers
@@ -40,14 +39,13 @@ linkNumbers (Linked l) =
 linkNumbers Missing = record { missing = 1; child = 0; parent = 0; name = 0; namelen = 0; next = 0 }
 
 unfoldable pub extentNumbers : Extent → ExtentNumbers
-extentNumbers e =
-    record {
-      volume = e .volume;
-      start = e .start .0;
-      size = e .size;
-      multiplicity = e .multiplicity;
-      count = e .count;
-      pre = e .pre;
-      post = e .post;
-      logical = e .logical .0;
-    }
+extentNumbers e = record {
+  volume = e .volume;
+  start = e .start .0;
+  size = e .size;
+  multiplicity = e .multiplicity;
+  count = e .count;
+  pre = e .pre;
+  post = e .post;
+  logical = e .logical .0;
+}

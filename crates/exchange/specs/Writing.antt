@@ -5,12 +5,11 @@ use Rattle.exchange.specs.Marks.{flagNumber, timedNumber, timeNumber}
 use Rattle.exchange.specs.declared.MarkNumbers.{MarkNumbers}
 
 unfoldable pub writtenNumbers : WriteAnswer → MarkNumbers
-writtenNumbers (Next mark) =
-    record {
-      refusal = 0;
-      next = mark .offset;
-      due = flagNumber (mark .due);
-      timed = timedNumber (mark .last);
-      last = timeNumber (mark .last);
-    }
+writtenNumbers (Next mark) = record {
+  refusal = 0;
+  next = mark .offset;
+  due = flagNumber (mark .due);
+  timed = timedNumber (mark .last);
+  last = timeNumber (mark .last);
+}
 writtenNumbers (Refused r) = record { refusal = r .number; next = 0; due = 0; timed = 0; last = 0 }

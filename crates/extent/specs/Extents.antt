@@ -13,17 +13,16 @@ abbrev pub extentField : (list : List ℕ) (index : ℕ) (name : String) → ℕ
 extentField list index name = numberAt list (57 * index + startOf name extentLayout) (widthOf name extentLayout)
 
 unfoldable pub extentAt : (list : List ℕ) (index : ℕ) → Extent
-extentAt list index =
-    record {
-      volume = extentField list index "volume";
-      start = record { 0 = extentField list index "P" };
-      size = extentField list index "S";
-      multiplicity = extentField list index "multiplicity";
-      count = extentField list index "C";
-      pre = extentField list index "pre";
-      post = extentField list index "post";
-      logical = record { 0 = extentField list index "Q" };
-    }
+extentAt list index = record {
+  volume = extentField list index "volume";
+  start = record { 0 = extentField list index "P" };
+  size = extentField list index "S";
+  multiplicity = extentField list index "multiplicity";
+  count = extentField list index "C";
+  pre = extentField list index "pre";
+  post = extentField list index "post";
+  logical = record { 0 = extentField list index "Q" };
+}
 
 -- how many extents a list has
 abbrev pub extentCount : (list : List ℕ) → ℕ

@@ -47,12 +47,7 @@ linksFrom links index (suc count) = linkAt links (linkStart links index) ∷ lin
 -- the link at a place, with its name by where that begins and how long it is
 abbrev pub foundAt : (links : List ℕ) (at : ℕ) → Link
 foundAt links at =
-    record {
-      child = linkField "child" links at;
-      parent = parentAt links at;
-      name = at + total linkWidths;
-      len = nameLengthAt links at;
-    }
+    record { child = linkField "child" links at; parent = parentAt links at; name = at + total linkWidths; len = nameLengthAt links at }
 
 -- the link that begins at a place, where it ends within the bytes
 unfoldable pub linkFrom : (links : List ℕ) (at : ℕ) → LinkAnswer

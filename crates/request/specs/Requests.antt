@@ -14,10 +14,7 @@ use Rattle.block.specs.Order.{tooLong, restOrder}
 
 -- a name of at most so many bytes, the largest value of its length field
 abbrev pub nameOrder : (most : ℕ) (name : List ℕ) → List Check
-nameOrder most name =
-    check (ltb most (length name)) 9
-    ∷ check (not (isText name)) 10
-    ∷ []
+nameOrder most name = check (ltb most (length name)) 9 ∷ check (not (isText name)) 10 ∷ []
 
 -- 9: a regular file's list, a table, or a name, value or path longer than its length field; 11 (link bytes): they are not exactly
 -- the stated links; 10, 11 (inode) and 12 are those of reading

@@ -21,10 +21,7 @@ use Rattle.volume.specs.declared.WriteAnswer.the-variants.{Next, Refused
 
 -- the checks of the place: 8 (below 80; a table is due and this is none, or this is one and none is due)
 abbrev pub placeOrder : Bookmark → (table : Bool) → List Check
-placeOrder mark table =
-    check (ltb (mark .offset) 80) 8
-    ∷ check (not (Bool·beq (mark .due) table)) 8
-    ∷ []
+placeOrder mark table = check (ltb (mark .offset) 80) 8 ∷ check (not (Bool·beq (mark .due) table)) 8 ∷ []
 
 -- the checks of time and room: 14, 1, 17
 abbrev pub roomOrder : Bookmark → (time : Option ℕ) (len room : ℕ) → List Check
