@@ -11,7 +11,7 @@ use borrow.Author.Tests.{lt-ltb}
 use Rattle.checks.proofs.Scan.{never}
 use Rattle.format.specs.Layout.{All}
 use Rattle.format.specs.Blocks.{Block, BlockRules}
-use Rattle.format.specs.Readings.{IsTable, NoTable, TableRule, timeOf, TimesRise}
+use Rattle.format.specs.Readings.{IsTable, NoTable, TableRule, timeOf, TimesFollow}
 use Rattle.format.specs.Readings as format
 use Rattle.block.proofs.Ids.{isTable, table-iff}
 use Rattle.volume.specs.Heading.{firstMark}
@@ -42,7 +42,7 @@ last-after last (some time) = refl
 
 -- the rules, where no table is due any more
 abbrev Rules : Option ℕ → List Block → Type 0
-Rules last blocks = All BlockRules blocks × NoTable blocks × TimesRise last blocks
+Rules last blocks = All BlockRules blocks × NoTable blocks × TimesFollow last blocks
 
 runs-rules : (mark : Bookmark) (blocks : List Block) → mark .due ≡ false → Runs mark blocks → Rules (asOption (mark .last)) blocks
 runs-rules mark [] d r = (tt, tt, tt)
@@ -62,7 +62,7 @@ rules-runs mark (block ∷ blocks) d r = (
 
 -- the rules of a whole volume, by its sequence number
 abbrev pub VolumeRules : (sequence : ℕ) → List Block → Type 0
-VolumeRules sequence blocks = All BlockRules blocks × TableRule sequence blocks × TimesRise none blocks
+VolumeRules sequence blocks = All BlockRules blocks × TableRule sequence blocks × TimesFollow none blocks
 
 above : (n : ℕ) → firstMark (suc n) .due ≡ true
 above n = lt-ltb 0 (suc n) (omega arith)

@@ -1,5 +1,5 @@
 -- A reading of a volume: a header and a list of blocks. They keep the rules, and one image after the other they make up its bytes.
-use Prim.Native.Nat.{ℕ, zero, suc, _<_}
+use Prim.Native.Nat.{ℕ, zero, suc, _≤_}
 use mathlib.Core.Path.{_≡_}
 use mathlib.Core.Option.{Option, none, some}
 use mathlib.Core.List.{List, [], _∷_, _++_}
@@ -35,11 +35,11 @@ timeOf (Data b) = some (b .time)
 timeOf (Rename b) = some (b .time)
 timeOf (Table b) = none
 
--- the time rule: where there is a last time, the next one is greater
+-- the time rule: where there is a last time, the next one is not lower
 abbrev pub TimeFollows : (last time : Option ℕ) → Type 0
 TimeFollows none time = Unit {0}
 TimeFollows (some last) none = Unit {0}
-TimeFollows (some last) (some time) = last < time
+TimeFollows (some last) (some time) = last ≤ time
 
 -- the last time once a block has been passed; a table leaves it as it was
 abbrev pub lastAfter : (last time : Option ℕ) → Option ℕ
@@ -47,16 +47,16 @@ lastAfter last none = last
 lastAfter last (some time) = some time
 
 -- every time in the volume keeps the time rule
-abbrev pub TimesRise : (last : Option ℕ) → List Block → Type 0
-TimesRise last [] = Unit {0}
-TimesRise last (block ∷ blocks) = TimeFollows last (timeOf block) × TimesRise (lastAfter last (timeOf block)) blocks
+abbrev pub TimesFollow : (last : Option ℕ) → List Block → Type 0
+TimesFollow last [] = Unit {0}
+TimesFollow last (block ∷ blocks) = TimeFollows last (timeOf block) × TimesFollow (lastAfter last (timeOf block)) blocks
 
 -- a header, a table where one is due and a list of blocks, all keeping the rules
 pub record Keeps (reading : Reading) : Type 0 where
   pub header : HeaderRules (reading .header)
   pub each : All BlockRules (reading .blocks)
   pub table : TableRule (reading .header .sequence) (reading .blocks)
-  pub times : TimesRise none (reading .blocks)
+  pub times : TimesFollow none (reading .blocks)
 
 unfoldable pub images : List Block → List ℕ
 images [] = []

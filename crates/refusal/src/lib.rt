@@ -31,8 +31,8 @@ pub const RULE_BROKEN: u64 = 11;
 pub const RANGES_OVERLAP: u64 = 12;
 // Two links of a table have the same parent and the same name.
 pub const LINK_TWICE: u64 = 13;
-
-pub const TIME_NOT_GREATER: u64 = 14;
+// The time is lower than the last one before it; an equal one is allowed.
+pub const TIME_LOWER: u64 = 14;
 // The block is not the inode of a regular file.
 pub const NOT_REGULAR_FILE: u64 = 15;
 // A volume or a range that is asked for is not there.

@@ -8,8 +8,8 @@ use mathlib.Core.List.{List, _++_}
 use native.Mathlib.Omega.{arith}
 use lib.Dec.{leb, eqb}
 use lib.ListN.{length, drop, length-append, length-drop}
-use borrow.Author.Tests.{ltb-true, leb-true, eqb-true, not-true}
-use borrow.Author.Tests.{lt-ltb, le-leb, eq-eqb, ne-eqb}
+use borrow.Author.Tests.{leb-true, eqb-true, not-true}
+use borrow.Author.Tests.{le-leb, eq-eqb, ne-eqb}
 use Rattle.number.specs.Number.{Bytes}
 use Rattle.number.proofs.Parts.{drop-part}
 use Rattle.checks.specs.Checks.{firstFault, clear, miss}
@@ -51,13 +51,13 @@ unfolding mayFollow
 follows Never none e = tt
 follows Never (some time) e = tt
 follows (At last) none e = tt
-follows (At last) (some time) e = ltb-true last time e
+follows (At last) (some time) e = leb-true last time e
 
 pub may-follow : (last : LastTime) (time : Option ℕ) → TimeFollows (asOption last) time → mayFollow last time ≡ true
 unfolding mayFollow
 may-follow last none h = refl
 may-follow Never (some time) h = refl
-may-follow (At last) (some time) h = lt-ltb last time h
+may-follow (At last) (some time) h = le-leb last time h
 
 pub right-place : (due table : Bool) → not (Bool·beq due table) ≡ false → due ≡ table
 right-place true true e = refl

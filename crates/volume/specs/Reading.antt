@@ -3,7 +3,7 @@ use Prim.Native.Nat.{ℕ, _+_}
 use mathlib.Core.Bool.{Bool, true, false, not, cond, _&&_}
 use mathlib.Core.Option.{Option, none, some}
 use mathlib.Core.List.{List, [], _∷_, _++_}
-use lib.Dec.{leb, ltb, eqb}
+use lib.Dec.{leb, eqb}
 use lib.ListN.{length}
 use Rattle.checks.specs.Checks.{Check, check, firstFault}
 use Rattle.refusal.specs.Refusal.{refusalOf}
@@ -30,7 +30,7 @@ asOption (At time) = some time
 unfoldable pub mayFollow : LastTime → (time : Option ℕ) → Bool
 mayFollow last none = true
 mayFollow Never (some time) = true
-mayFollow (At last) (some time) = ltb last time
+mayFollow (At last) (some time) = leb last time
 
 -- the last time once a block has been passed
 abbrev pub lastWith : LastTime → (time : Option ℕ) → LastTime

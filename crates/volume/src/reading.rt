@@ -6,7 +6,7 @@ use crate::ReadAnswer;
 use block::Block;
 use block::limits::HEADER_LEN;
 use block::limits::VOLUME_LIMIT;
-use refusal::TIME_NOT_GREATER;
+use refusal::TIME_LOWER;
 use refusal::refuse;
 ghost use mathlib.Core.Path.{_≡_};
 ghost use Rattle.block.specs.inner.Decoded.{timeOfBlock};
@@ -53,7 +53,7 @@ pub(crate) fn may_follow(last: LastTime, time: LastTime) -> bool
     };
     match last {
         LastTime::Never => true,
-        LastTime::At(old) => old < new,
+        LastTime::At(old) => old <= new,
     }
 }
 
@@ -95,7 +95,7 @@ impl Bookmark {
         let found = decoded.block;
         let time = time_of(found);
         if !may_follow(last, time) {
-            return ReadAnswer::Refused(refuse(TIME_NOT_GREATER));
+            return ReadAnswer::Refused(refuse(TIME_LOWER));
         }
         let next = mark_after(self, decoded.end, time);
         ReadAnswer::Found(Found { block: found, next })

@@ -11,7 +11,7 @@ use block::limits::HEADER_LEN;
 use block::limits::VOLUME_LIMIT;
 use refusal::OUT_OF_PLACE;
 use refusal::ROOM_TOO_SMALL;
-use refusal::TIME_NOT_GREATER;
+use refusal::TIME_LOWER;
 use refusal::TOO_LARGE;
 use refusal::refuse;
 ghost use mathlib.Core.Path.{_≡_};
@@ -312,7 +312,7 @@ fn room_fault(mark: Bookmark, time: LastTime, fixed: usize, body: usize, room: u
     let offset = mark.offset;
     let last = mark.last;
     if !may_follow(last, time) {
-        return TIME_NOT_GREATER;
+        return TIME_LOWER;
     }
     if runs_past(VOLUME_LIMIT, offset, fixed, body) {
         return TOO_LARGE;
