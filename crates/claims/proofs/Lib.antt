@@ -20,6 +20,7 @@ pub mod Bytes
 pub mod Tried
 pub mod WrongReaders
 pub mod WrongWriters
+pub mod WrongTimes
 pub mod WrongLookups
 pub mod WrongListing
 pub mod Wrong

@@ -1,20 +1,28 @@
 -- Small volumes on which wrong libraries are tried, and that they have a reading. Assumes nothing.
 use Prim.Native.Nat.{ℕ, _^_, _≤_, _<_}
-use mathlib.Core.Path.{_≡_, refl, ap, _∙_}
-use mathlib.Core.List.{List, [], _∷_}
+use mathlib.Core.Path.{_≡_, refl, sym, ap, _∙_, subst}
+use mathlib.Core.List.{List, [], _∷_, _++_}
 use native.Mathlib.Omega.{arith}
 use lib.ListN.{length, replicate, length-append}
 use Rattle.number.specs.Number.{Bytes, leBytes}
+use Rattle.number.proofs.Digits.{bytes-append}
 use Rattle.utf8.specs.Grammar.{empty}
 use Rattle.format.specs.Layout.{All, laid, sealed}
 use Rattle.format.specs.Blocks.{TableLink, Block, Data, Table, idOf, linkImage, linkList, body, image, LinksOf, BlockRules}
 use Rattle.format.specs.Headers.{HeaderRules, noHash, headerFields, headerImage}
 use Rattle.format.specs.Readings.{Reading, IsTable, Keeps, images, volumeOf, ReadingOf}
+use Rattle.request.specs.Asking.{Sized}
+use Rattle.volume.specs.Heading.{firstMark}
+use Rattle.volume.specs.declared.Bookmark.{Bookmark}
+use Rattle.volume.specs.declared.Verdict.{Verdict}
+use Rattle.volume.specs.declared.Verdict.the-variants.{Accepted, Refused}
 use Rattle.volume.proofs.HeaderImage.{length-header}
-use Rattle.claims.specs.Library.{Library}
-use Rattle.claims.specs.Demand3.{VolumeClaim, Demand3}
+use Rattle.claims.specs.Library.{Library, ours}
+use Rattle.claims.specs.Demand3Reading.{ReaderGives}
+use Rattle.claims.specs.Demand3.{VolumeClaim, Start, from-volume, Demand3}
 use Rattle.claims.specs.Samples.{first}
 use Rattle.claims.proofs.Bytes.{all-small, small-bytes, zeros-bytes, volume-bytes}
+use Rattle.claims.proofs.Demand3Reading.{reading-gives, check-answers}
 
 -- The header of the samples alone is a volume.
 abbrev pub bare : Reading
@@ -50,31 +58,50 @@ whole reading keeps = record { keeps = keeps; bytes = refl }
 pub of-bare : (library : Library) → Demand3 library → VolumeClaim library (volumeOf bare)
 of-bare library claim = of-reading library bare claim first-rules tt (omega (arith, bare-long))
 
--- Two data blocks with two times: a reader that gives the first again gives one time twice.
+-- A data block without payload, at a time.
 abbrev pub bareData : (time : ℕ) → Block
 bareData time = Data (record { time = time; payload = [] })
 
-abbrev pub two : Reading
-two = record { header = first; blocks = bareData 1 ∷ bareData 2 ∷ [] }
+pub data-long : (time : ℕ) → length (image (bareData time)) ≡ 21
+unfolding image sealed laid leBytes
+data-long time = refl
 
 pub data-rules : (time : ℕ) → time < 256 ^ 8 → BlockRules (bareData time)
 data-rules time small = record { fit = (small, (omega arith, tt)); bytes = λ i. omega arith; rules = tt }
 
+pub data-sized : (time : ℕ) → time < 256 ^ 8 → Sized (bareData time)
+data-sized time small = record { fit = (small, (omega arith, tt)); bytes = λ i. omega arith }
+
 not-table : (time : ℕ) → IsTable (bareData time) → ⊥
 not-table time e = let z : _≡_ {A = ℕ} 6 8 = ap idOf e in omega arith
 
-pub two-keeps : Keeps two
-two-keeps =
-    record {
-      header = first-rules;
-      each = (data-rules 1 (omega arith), (data-rules 2 (omega arith), tt));
-      table = (not-table 1, (not-table 2, tt));
-      times = (tt, (omega arith, tt));
-    }
+-- Two of them, the second not at a lower time.
+abbrev pub two : (time later : ℕ) → Reading
+two time later = record { header = first; blocks = bareData time ∷ bareData later ∷ [] }
 
-pub two-small : length (volumeOf two) ≤ 16777216
-unfolding volumeOf images image headerImage headerFields sealed laid leBytes
-two-small = omega arith
+module _ (time later : ℕ) where
+  pub two-keeps : time ≤ later → later < 256 ^ 8 → Keeps (two time later)
+  two-keeps order small =
+      record {
+        header = first-rules;
+        each = (data-rules time (omega arith), (data-rules later small, tt));
+        table = (not-table time, (not-table later, tt));
+        times = (tt, (order, tt));
+      }
+
+  pub two-bytes : Bytes (volumeOf (two time later))
+  two-bytes = volume-bytes (two time later) first-rules ((λ i. omega arith), ((λ i. omega arith), tt))
+
+  two-small : length (volumeOf (two time later)) ≤ 16777216
+  unfolding volumeOf images image headerImage headerFields sealed laid leBytes
+  two-small = omega arith
+
+  -- what a library that meets the claim hands out of them
+  pub two-given : (library : Library) → Demand3 library → time ≤ later → later < 256 ^ 8
+      → (end : Bookmark) × ReaderGives library (volumeOf (two time later)) (two time later) end
+  two-given library claim order small =
+      claim .volumes (volumeOf (two time later)) two-bytes two-small .reading .reader-gives-the-reading (two time later) .0
+      (whole (two time later) (two-keeps order small))
 
 -- A table with a link from 1 to 2: in an empty part there is no such link.
 abbrev pub oneLink : List TableLink
@@ -125,3 +152,32 @@ tabled-keeps =
 pub tabled-small : length (volumeOf tabled) ≤ 16777216
 unfolding volumeOf images image headerImage headerFields sealed laid leBytes linkList linkImage
 tabled-small = omega arith
+
+-- A buffer with the header alone and room for more, from which appends start in every library whose check is ours.
+abbrev spare : List ℕ
+spare = replicate 100 0
+
+abbrev pub roomy : List ℕ
+roomy = volumeOf bare ++ spare
+
+pub roomy-long : length roomy ≡ 180
+roomy-long = length-append (volumeOf bare) spare ∙ rw bare-long
+
+pub roomy-bytes : Bytes roomy
+roomy-bytes = bytes-append (volumeOf bare) spare (volume-bytes bare first-rules tt) (zeros-bytes 100)
+
+pub started : (library : Library) → Demand3 library → library .check (volumeOf bare) ≡ ours .check (volumeOf bare)
+    → Start library roomy (firstMark 0) bare
+started library claim same =
+    let claims = of-bare library claim .reading in
+    let gives = claims .reader-gives-the-reading bare .0 (whole bare bare-keeps) in
+    let small : length (volumeOf bare) ≤ 16777216 = omega (arith, bare-long) in
+    let right = check-answers (volumeOf bare) bare (firstMark 0) (reading-gives (volumeOf bare) bare small (whole bare bare-keeps)) in
+    let told = claims .check-answers-for-the-reading bare (gives .0) (gives .1) in
+    let end : firstMark 0 ≡ gives .0 = ap endOf (sym right ∙ sym same ∙ told) in
+    from-volume (volumeOf bare) spare bare refl (claims .accepted-iff-it-has-a-reading .1 (bare, whole bare bare-keeps))
+    (subst (ReaderGives library (volumeOf bare) bare) (sym end) (gives .1))
+  where
+    endOf : Verdict → Bookmark
+    endOf (Accepted a) = a .end
+    endOf (Refused r) = firstMark 0

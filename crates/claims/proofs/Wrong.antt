@@ -2,6 +2,7 @@
 use Rattle.claims.specs.Wrong.{WrongAreShutOut}
 use Rattle.claims.proofs.WrongReaders.{refuses-all, repeats-first, invents-blocks, invents-blocks-before-faults, hands-out-no-links}
 use Rattle.claims.proofs.WrongWriters.{stores-nothing, always-due}
+use Rattle.claims.proofs.WrongTimes.{refuses-same-time, accepts-lower-time}
 use Rattle.claims.proofs.WrongListing.{invents-listed-blocks}
 use Rattle.claims.proofs.WrongLookups.{holes-only, one-place-only, holes-where-refused}
 
@@ -19,4 +20,6 @@ wrong-are-shut-out =
       invents-blocks-before-faults = invents-blocks-before-faults;
       hands-out-no-links = hands-out-no-links;
       always-due = always-due;
+      refuses-same-time = refuses-same-time;
+      accepts-lower-time = accepts-lower-time;
     }

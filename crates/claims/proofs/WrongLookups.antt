@@ -5,12 +5,8 @@ use mathlib.Core.Logic.{⊎-elim}
 use mathlib.Core.List.{[], _∷_}
 use native.Mathlib.Omega.{arith}
 use Rattle.number.specs.Number.{Bytes}
-use Rattle.utf8.specs.Grammar.{empty}
-use Rattle.format.specs.Layout.{All}
 use Rattle.lookup.specs.Lookup.{lookupFault}
-use Rattle.claims.specs.Library.{ours}
 use Rattle.claims.specs.Demand2.{AllIsThere, Demand2}
-use Rattle.claims.specs.Demand3.{refused}
 use Rattle.claims.specs.Samples.{File, first, payload, inode, lengths, withFile, fileA, fileB}
 use Rattle.claims.specs.Wrong.{holesOnly, onePlaceOnly, holesWhereRefused, holeFor}
 use Rattle.claims.proofs.Bytes.{all-small, small-bytes, volume-bytes, extents-bytes}

@@ -3,11 +3,10 @@
 use Prim.Native.Nat.{ℕ}
 use mathlib.Core.Path.{_≡_, refl, sym, ap, _∙_}
 use mathlib.Core.Option.{Option, some}
-use mathlib.Core.List.{List, [], _∷_}
+use mathlib.Core.List.{List, []}
 use native.Mathlib.Omega.{arith}
 use lib.ListN.{length}
 use Rattle.number.specs.Number.{leBytes}
-use Rattle.utf8.specs.Grammar.{empty}
 use Rattle.refusal.specs.Refusal.{refusalOf}
 use Rattle.format.specs.Layout.{All, laid}
 use Rattle.format.specs.Blocks.{linkImage, linkList, Block, Inode, Link, Unlink, Xattr, RemovedXattr, Data, Rename, Table}
@@ -27,14 +26,12 @@ use Rattle.volume.specs.declared.ReadAnswer.the-variants as read
 use Rattle.volume.specs.declared.Rejected.{Rejected}
 use Rattle.volume.specs.declared.Verdict.{Verdict}
 use Rattle.volume.specs.declared.Verdict.the-variants as verdict
-use Rattle.volume.proofs.OneCall.{after}
 use Rattle.claims.specs.Library.{ours}
 use Rattle.claims.specs.Demand3Reading.{Calls, ended, handed, RefusedAt, at-the-header, at-a-block}
-use Rattle.claims.specs.Demand3.{accepted, refused, Demand3}
-use Rattle.claims.specs.Samples.{first, payload}
+use Rattle.claims.specs.Demand3.{accepted, Demand3}
 use Rattle.claims.specs.Wrong.{refusesAll, inventsBlocks, sevenOf, repeatsFirst, firstBlock, inventsBlocksBeforeFaults, sevenBefore, handsOutNoLinks, emptyPart, withoutLength}
 use Rattle.claims.proofs.Demand3.{demand-3-holds}
-use Rattle.claims.proofs.Tried.{bare, first-rules, bare-keeps, of-reading, whole, of-bare, two, two-keeps, two-small, tabled, tabled-header, link-bytes, tabled-keeps, tabled-small}
+use Rattle.claims.proofs.Tried.{bare, bare-keeps, of-reading, whole, of-bare, two-given, tabled, tabled-header, link-bytes, tabled-keeps, tabled-small}
 
 -- It has a reading, so it may not be refused.
 pub refuses-all : Demand3 refusesAll → ⊥
@@ -93,8 +90,7 @@ all-the-first {volume} {mark} (handed {found = found} e calls) =
 
 pub repeats-first : Demand3 repeatsFirst → ⊥
 repeats-first claim =
-    let gives = of-reading repeatsFirst two claim first-rules ((λ i. omega arith), ((λ i. omega arith), tt)) two-small
-    .reading .reader-gives-the-reading two .0 (whole two two-keeps) in
+    let gives = two-given 1 2 repeatsFirst claim (omega arith) (omega arith) in
     let same = all-the-first (gives .1 .blocks) in
     let times : _≡_ {A = Option ℕ} (some 1) (some 2) = ap timeOf (same .0 ∙ sym (same .1 .0)) in
     let z : _≡_ {A = ℕ} 1 2 = cc in

@@ -1,18 +1,25 @@
 -- Libraries that are wrong, each in one way, and that a claim is false of. The first are the empty programs that a claim has to shut
--- out: they answer, but nothing comes of it. The others are right wherever a claim used to look, and wrong beside it.
+-- out: they answer, but nothing comes of it. The next are right wherever a claim used to look, and wrong beside it. The last two go by
+-- another rule for times.
 --
 -- What a wrong library answers is what ours does, but for the calls named. Proved in proofs/Wrong.antt.
 use Prim.Native.Nat.{ℕ}
-use mathlib.Core.Bool.{true}
+use mathlib.Core.Bool.{Bool, true, false, cond}
+use mathlib.Core.Option.{Option, none, some}
 use mathlib.Core.List.{List, [], _++_}
+use lib.Dec.{eqb}
 use lib.ListN.{length}
 use Rattle.number.specs.Number.{put}
 use Rattle.refusal.specs.Refusal.{refusalOf}
 use Rattle.format.specs.Blocks as format
 use Rattle.format.specs.Headers.{Header}
+use Rattle.format.specs.Readings.{timeOf}
+use Rattle.block.specs.Shown.{shown}
 use Rattle.block.specs.inner.Decoded.{blockAt}
 use Rattle.block.specs.declared.Block.{Block}
 use Rattle.block.specs.declared.Block.the-variants as block
+use Rattle.volume.specs.declared.LastTime.{LastTime}
+use Rattle.volume.specs.declared.LastTime.the-variants.{Never, At}
 use Rattle.volume.specs.declared.Bookmark.{Bookmark}
 use Rattle.volume.specs.declared.HeaderAnswer.the-variants as head
 use Rattle.volume.specs.declared.ReadAnswer.{ReadAnswer}
@@ -178,6 +185,33 @@ alwaysDue =
     answering (ours .read) (ours .check) (ours .headerBuffer) (λ room mark request. dueAfter (ours .append room mark request))
     (ours .appendBuffer) (ours .position) (ours .listRoom)
 
+-- Wrong about times.
+
+-- whether a time is the last one
+abbrev pub isLast : LastTime → (time : Option ℕ) → Bool
+isLast Never time = false
+isLast (At last) none = false
+isLast (At last) (some time) = eqb last time
+
+-- a reader that asks for a greater time: it refuses a block whose time is the last one
+abbrev pub greaterOnly : (volume : List ℕ) → Bookmark → ReadAnswer → ReadAnswer
+greaterOnly volume mark (read.Found found) =
+    cond (isLast (mark .last) (timeOf (shown volume (found .block)))) (read.Refused (refusalOf 14)) (read.Found found)
+greaterOnly volume mark read.End = read.End
+greaterOnly volume mark (read.Refused refusal) = read.Refused refusal
+
+abbrev pub refusesSameTime : Library
+refusesSameTime = reading (λ volume mark. greaterOnly volume mark (ours .read volume mark))
+
+-- a writer that does not look at the last time, and so accepts a lower one
+abbrev pub timeless : Bookmark → Bookmark
+timeless mark = record { offset = mark .offset; due = mark .due; last = Never }
+
+abbrev pub acceptsLowerTime : Library
+acceptsLowerTime =
+    answering (ours .read) (ours .check) (ours .headerBuffer) (λ room mark request. ours .append room (timeless mark) request)
+    (λ buffer mark request. ours .appendBuffer buffer (timeless mark) request) (ours .position) (ours .listRoom)
+
 -- No claim holds of them.
 pub record WrongAreShutOut : Type 0 where
   pub refuses-all : Demand3 refusesAll → ⊥
@@ -191,3 +225,5 @@ pub record WrongAreShutOut : Type 0 where
   pub invents-blocks-before-faults : Demand3 inventsBlocksBeforeFaults → ⊥
   pub hands-out-no-links : Demand3 handsOutNoLinks → ⊥
   pub always-due : Demand3 alwaysDue → ⊥
+  pub refuses-same-time : Demand3 refusesSameTime → ⊥
+  pub accepts-lower-time : Demand3 acceptsLowerTime → ⊥

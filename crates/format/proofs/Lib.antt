@@ -2,3 +2,4 @@ pub mod Listed
 pub mod Fields
 pub mod Seal
 pub mod Images
+pub mod Times

@@ -46,18 +46,18 @@ pub record Allowed (mark : Bookmark) (block : Block) : Type 0 where
 abbrev pub after : Bookmark → Block → Bookmark
 after mark block = markAfter mark (mark .offset + length (image block)) (timeOf block)
 
+pub may-follow : (last : LastTime) (time : Option ℕ) → TimeFollows (asOption last) time → mayFollow last time ≡ true
+unfolding mayFollow
+may-follow last none h = refl
+may-follow Never (some time) h = refl
+may-follow (At last) (some time) h = le-leb last time h
+
 pub follows : (last : LastTime) (time : Option ℕ) → mayFollow last time ≡ true → TimeFollows (asOption last) time
 unfolding mayFollow
 follows Never none e = tt
 follows Never (some time) e = tt
 follows (At last) none e = tt
 follows (At last) (some time) e = leb-true last time e
-
-pub may-follow : (last : LastTime) (time : Option ℕ) → TimeFollows (asOption last) time → mayFollow last time ≡ true
-unfolding mayFollow
-may-follow last none h = refl
-may-follow Never (some time) h = refl
-may-follow (At last) (some time) h = le-leb last time h
 
 pub right-place : (due table : Bool) → not (Bool·beq due table) ≡ false → due ≡ table
 right-place true true e = refl
