@@ -41,11 +41,12 @@ impl Bookmark {
         }
     }
 
-    /// Refuses a time that may not come after the last one.
+    /// Refuses a time that is lower than the last one before it. It may be
+    /// the same: two blocks can be logged in one microsecond.
     #[inline]
     pub(crate) fn admit(self, time: Option<u64>) -> Result<(), Refusal> {
         match (self.last, time) {
-            (Some(last), Some(time)) if time <= last => Err(TIME),
+            (Some(last), Some(time)) if time < last => Err(TIME_LOWER),
             _ => Ok(()),
         }
     }

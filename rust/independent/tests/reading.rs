@@ -84,19 +84,6 @@ fn identifiers() {
     assert_eq!(refusal_by(&[8], due), 2);
 }
 
-/// Every block with one spare byte for each variable part.
-fn one_of_each(time: u64) -> [Vec<u8>; 7] {
-    [
-        inode(time, SYMBOLIC, 71, b"t"),
-        link(2, time, b"n"),
-        link(3, time, b"n"),
-        xattr(time, b"n", b"\xff"),
-        removed_xattr(time, b"n"),
-        data(time, b"\xff"),
-        rename(time, b"o", b"n"),
-    ]
-}
-
 #[test]
 fn every_cut() {
     for block in one_of_each(11) {
@@ -188,24 +175,13 @@ fn text_is_judged_part_by_part() {
 
 #[test]
 fn text_before_fields_before_time() {
-    assert_eq!(refusal(&inode(10, SYMBOLIC, 3, BAD)), 10);
-    assert_eq!(refusal(&inode(10, SYMBOLIC, 3, b"t")), 11);
-    assert_eq!(refusal(&inode(10, SYMBOLIC, 71, b"t")), 14);
-    assert_eq!(refusal(&inode(10, FOLDER, 70, b"t")), 11);
-    assert_eq!(refusal(&inode(10, FOLDER, 71, b"")), 11);
-    assert_eq!(refusal(&inode(10, FOLDER, 70, b"")), 14);
-    assert_eq!(refusal(&link(2, 10, BAD)), 10);
-    for block in one_of_each(10) {
-        assert_eq!(refusal(&block), 14);
-        let none = mark(80, false, None);
-        assert_eq!(refusal_by(&block, none), 0);
-        assert_eq!(refusal_by(&block, mark(80, false, Some(TOP))), 14);
-    }
-    // Time 0 passes only where there was none before.
-    for block in one_of_each(0) {
-        assert_eq!(refusal_by(&block, mark(80, false, None)), 0);
-        assert_eq!(refusal_by(&block, mark(80, false, Some(0))), 14);
-    }
+    assert_eq!(refusal(&inode(9, SYMBOLIC, 3, BAD)), 10);
+    assert_eq!(refusal(&inode(9, SYMBOLIC, 3, b"t")), 11);
+    assert_eq!(refusal(&inode(9, SYMBOLIC, 71, b"t")), 14);
+    assert_eq!(refusal(&inode(9, FOLDER, 70, b"t")), 11);
+    assert_eq!(refusal(&inode(9, FOLDER, 71, b"")), 11);
+    assert_eq!(refusal(&inode(9, FOLDER, 70, b"")), 14);
+    assert_eq!(refusal(&link(2, 9, BAD)), 10);
 }
 
 #[test]
@@ -214,10 +190,10 @@ fn extents_before_overlap_before_time() {
     let b = (0, 0, 3, 67, 1, 0, 0, 2);
     let bad = (0, 0, 3, 68, 1, 0, 0, 9);
     let with = |time, list: &[Fields]| refusal(&inode(time, REGULAR, 0, &extents(list)));
-    assert_eq!(with(10, &[a, b, bad]), 11);
-    assert_eq!(with(10, &[a, b]), 12);
-    assert_eq!(with(10, &[a]), 14);
-    assert_eq!(with(11, &[a]), 0);
+    assert_eq!(with(9, &[a, b, bad]), 11);
+    assert_eq!(with(9, &[a, b]), 12);
+    assert_eq!(with(9, &[a]), 14);
+    assert_eq!(with(10, &[a]), 0);
 }
 
 #[test]
@@ -396,8 +372,6 @@ fn inode_time_stands_at_nine() {
 
 #[test]
 fn whole_volumes() {
-    let bytes = volume(0, &[data(5, b"a"), data(5, b"b")]);
-    assert_eq!(check(&bytes), refused(14, 102, 1));
     let bytes = volume(2, &[table(0, b""), table(0, b"")]);
     assert_eq!(check(&bytes), refused(8, 93, 1));
     let bytes = volume(2, &[table(0, b""), data(0, b""), table(0, b"")]);
@@ -405,13 +379,8 @@ fn whole_volumes() {
     let bytes = volume(0, &[table(0, b"")]);
     assert_eq!(check(&bytes), refused(8, 80, 0));
     let bytes = volume(TOP, &[table(0, b""), data(0, b"")]);
-    let accepted = Verdict::Accepted {
-        sequence: TOP,
-        blocks: 2,
-        end: mark(114, false, Some(0)),
-    };
     for form in [crc::bits, crc::table, crc::slicing] {
-        assert_eq!(check_with(&bytes, form), accepted);
+        assert_eq!(check_with(&bytes, form), accepted(TOP, 2, 114, Some(0)));
     }
     let mut one_more = header(1);
     one_more.push(6);

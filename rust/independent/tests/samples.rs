@@ -24,13 +24,7 @@ fn short_inputs() {
 
 #[test]
 fn headers_alone() {
-    let end = mark(80, false, None);
-    let accepted = Verdict::Accepted {
-        sequence: 0,
-        blocks: 0,
-        end,
-    };
-    assert_eq!(check(&header(0)), accepted);
+    assert_eq!(check(&header(0)), accepted(0, 0, 80, None));
     assert_eq!(check(&header(1)), refused(2, 80, 0));
 }
 
@@ -43,12 +37,7 @@ fn volume_v() {
     let v = sample_v();
     assert_eq!(v.len(), 104);
     assert_eq!(&v[97..100], b"1,5");
-    let accepted = Verdict::Accepted {
-        sequence: 0,
-        blocks: 1,
-        end: mark(104, false, Some(1)),
-    };
-    assert_eq!(check(&v), accepted);
+    assert_eq!(check(&v), accepted(0, 1, 104, Some(1)));
 }
 
 #[test]

@@ -74,23 +74,26 @@ fn the_highest_volume_has_the_current_inode() {
 
 #[test]
 fn the_last_block_of_a_volume_has_the_current_inode() {
-    let blocks = [
-        regular(1, 3, &[]),
-        numbered(6, regular(2, 4, &[])),
-        regular(3, 1, &[]),
-        inode(4, FOLDER, 70, b""),
-        numbered(6, inode(5, SYMBOLIC, 72, b"up")),
-    ];
-    let zero = volume(0, &blocks);
-    let set = set(&[&zero]);
-    assert_eq!(stands(&set, 5), (0, 80 + 3 * 75));
-    assert_eq!(stands(&set, 6), (0, 80 + 4 * 75));
-    assert_eq!(set.inodes().len(), 2);
-    assert_eq!(set.inodes()[&6].variable.bytes, b"up");
-    assert_eq!(set.file(5).unwrap_err(), FileRefusal::NotRegular);
-    assert_eq!(set.file(6).unwrap_err().number(), Some(15));
-    assert_eq!(set.file(7).unwrap_err(), FileRefusal::NoInode);
-    assert_eq!(set.file(7).unwrap_err().number(), None);
+    // Its place decides, also where all times are the same.
+    for times in [[1, 2, 3, 4, 5], [7; 5]] {
+        let blocks = [
+            regular(times[0], 3, &[]),
+            numbered(6, regular(times[1], 4, &[])),
+            regular(times[2], 1, &[]),
+            inode(times[3], FOLDER, 70, b""),
+            numbered(6, inode(times[4], SYMBOLIC, 72, b"up")),
+        ];
+        let zero = volume(0, &blocks);
+        let set = set(&[&zero]);
+        assert_eq!(stands(&set, 5), (0, 80 + 3 * 75));
+        assert_eq!(stands(&set, 6), (0, 80 + 4 * 75));
+        assert_eq!(set.inodes().len(), 2);
+        assert_eq!(set.inodes()[&6].variable.bytes, b"up");
+        assert_eq!(set.file(5).unwrap_err(), FileRefusal::NotRegular);
+        assert_eq!(set.file(6).unwrap_err().number(), Some(15));
+        assert_eq!(set.file(7).unwrap_err(), FileRefusal::NoInode);
+        assert_eq!(set.file(7).unwrap_err().number(), None);
+    }
 }
 
 #[test]
@@ -305,6 +308,12 @@ fn the_last_link_decides() {
         link(2, 5, b"m"),
     ]);
     assert_eq!(taken_away(std::slice::from_ref(&linked)), [made, away]);
+
+    // Of those at one time, the one that stands last.
+    let unlinked_at_once = first(&[link(2, 3, b"n"), link(3, 3, b"n")]);
+    assert_eq!(taken_away(&[unlinked_at_once]), [away, None]);
+    let linked_at_once = first(&[link(3, 3, b"n"), link(2, 3, b"n")]);
+    assert_eq!(taken_away(&[linked_at_once]), [made, None]);
 
     // A higher volume decides, whatever its times; a parent is no child.
     let later = volume(

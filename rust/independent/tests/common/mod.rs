@@ -1,7 +1,7 @@
 //! Bytes of headers and blocks, put together by hand.
 #![allow(dead_code)]
 
-use independent::{crc, Bookmark, Verdict};
+use independent::{crc, Bookmark, Stat, Verdict};
 
 pub const REGULAR: u16 = 0x81A4;
 pub const SYMBOLIC: u16 = 0xA1FF;
@@ -58,6 +58,22 @@ pub fn inode_stating(time: u64, mode: u16, size: u64, n: u64, variable: &[u8]) -
 
 pub fn inode(time: u64, mode: u16, size: u64, variable: &[u8]) -> Vec<u8> {
     inode_stating(time, mode, size, variable.len() as u64, variable)
+}
+
+/// The numbers that [`inode`] has.
+pub fn stat(time: u64, mode: u16, size: u64) -> Stat {
+    Stat {
+        inode: 5,
+        time,
+        mode,
+        uid: 1,
+        gid: 2,
+        atime: 11,
+        mtime: 12,
+        ctime: 13,
+        btime: 14,
+        size,
+    }
 }
 
 pub fn link(id: u8, time: u64, name: &[u8]) -> Vec<u8> {
@@ -125,6 +141,19 @@ pub fn table(count: u64, links: &[u8]) -> Vec<u8> {
     sealed(bytes)
 }
 
+/// Every block but a table, with one byte for each variable part.
+pub fn one_of_each(time: u64) -> [Vec<u8>; 7] {
+    [
+        inode(time, SYMBOLIC, 71, b"t"),
+        link(2, time, b"n"),
+        link(3, time, b"n"),
+        xattr(time, b"n", b"\xff"),
+        removed_xattr(time, b"n"),
+        data(time, b"\xff"),
+        rename(time, b"o", b"n"),
+    ]
+}
+
 /// Volume, start, size, multiplicity, count, pre, post, logical start.
 pub type Fields = (u64, u64, u64, u8, u64, u64, u64, u64);
 
@@ -164,6 +193,16 @@ pub fn lengths(list: &[u64]) -> Vec<u8> {
 
 pub fn mark(offset: u64, due: bool, last: Option<u64>) -> Bookmark {
     Bookmark { offset, due, last }
+}
+
+/// No table is due at the end of an accepted volume.
+pub fn accepted(sequence: u64, blocks: u64, end: u64, last: Option<u64>) -> Verdict {
+    let end = mark(end, false, last);
+    Verdict::Accepted {
+        sequence,
+        blocks,
+        end,
+    }
 }
 
 pub fn refused(number: u64, offset: u64, blocks: u64) -> Verdict {
