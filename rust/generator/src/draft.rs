@@ -4,7 +4,7 @@ use std::collections::BTreeSet;
 
 use crate::image::{self, Extent, Stat};
 use crate::rng::Rng;
-use crate::{extents, text};
+use crate::{extents, text, time};
 
 const TOP: u64 = u64::MAX;
 
@@ -86,24 +86,42 @@ impl Draft {
         }
     }
 
-    /// Adds up to that many sound blocks; fewer if time runs out.
+    /// Adds that many sound blocks, now and then all at one time. Now and
+    /// then a link brings its inode along.
     pub fn blocks(&mut self, rng: &mut Rng, many: u64) {
-        for _ in 0..many {
-            if !self.block(rng) {
-                return;
+        let at_once = rng.once_in(12);
+        for place in 0..many {
+            let time = match self.last {
+                Some(last) if at_once && place > 0 => last,
+                last => time::following(rng, last),
+            };
+            if rng.once_in(20) {
+                self.linked_inode(rng, time);
+            } else {
+                self.block(rng, time);
             }
         }
     }
 
-    /// Adds a sound block, if there is a later time.
-    pub fn block(&mut self, rng: &mut Rng) -> bool {
-        let Some(time) = later(rng, self.last) else {
-            return false;
+    /// Adds a link and the inode that it names, at one time: a fast logger
+    /// writes them in the same microsecond.
+    pub fn linked_inode(&mut self, rng: &mut Rng, time: u64) {
+        let stat = Stat {
+            mode: other_mode(rng),
+            ..any_stat(rng, time, 70)
         };
+        let name = text::sound(rng, 65_535);
+        let link = image::link(image::LINK, time, stat.inode, rng.number(), &name);
+        self.push_timed(time, &link);
+        self.push_timed(time, &image::inode(&stat, b""));
+    }
+
+    /// Adds a sound block with this time.
+    pub fn block(&mut self, rng: &mut Rng, time: u64) {
         let image = match rng.below(12) {
             0..=4 => {
                 self.regular(rng, time);
-                return true;
+                return;
             }
             5 => symbolic_link(rng, time),
             6 => other_inode(rng, time),
@@ -133,7 +151,6 @@ impl Draft {
             }
         };
         self.push_timed(time, &image);
-        true
     }
 
     fn regular(&mut self, rng: &mut Rng, time: u64) {
@@ -170,24 +187,6 @@ pub fn any_sequence(rng: &mut Rng) -> u64 {
 /// A sequence number above 0.
 pub fn high_sequence(rng: &mut Rng) -> u64 {
     any_sequence(rng).max(1)
-}
-
-/// A time after the last, if there is one.
-pub fn later(rng: &mut Rng, last: Option<u64>) -> Option<u64> {
-    let Some(last) = last else {
-        return Some(match rng.below(6) {
-            0 => 0,
-            1 => TOP - rng.below(12),
-            2 => rng.number(),
-            _ => rng.below(1_000),
-        });
-    };
-    let least = last.checked_add(1)?;
-    Some(match rng.below(40) {
-        0 => rng.between(least, TOP),
-        1..=20 => least,
-        _ => least.saturating_add(rng.below(500)),
-    })
 }
 
 /// A size that has something to do with where the kept positions end.

@@ -3,13 +3,13 @@
 use crate::draft::{self, Draft, File};
 use crate::image::{self, Extent, Stat, COUNTED, LIMIT, REPEATED};
 use crate::rng::Rng;
-use crate::Expected;
+use crate::{time, Expected};
 
 const TOP: u64 = u64::MAX;
 
 /// How many kinds of edges there are. The last [`LARGE`] have 16 MiB.
 pub const COUNT: u64 = SMALL + LARGE;
-pub const SMALL: u64 = 40;
+pub const SMALL: u64 = 44;
 pub const LARGE: u64 = 4;
 
 /// The volume of one kind, and the verdict on it where it is known.
@@ -191,10 +191,11 @@ pub fn edge(rng: &mut Rng, kind: u64) -> (Draft, Expected) {
             };
             (one_file(rng, list), expected)
         }
-        40 | 41 => {
+        40..=43 => times(rng, kind - 40),
+        44 | 45 => {
             // One data block up to the last byte, and one byte more.
             let mut draft = Draft::new(rng, 0);
-            let more = (kind - 40) as usize;
+            let more = (kind - 44) as usize;
             let payload = vec![rng.word() as u8; LIMIT - 101 + more];
             draft.push_timed(7, &image::data(7, &payload));
             let expected = if more == 0 {
@@ -204,7 +205,7 @@ pub fn edge(rng: &mut Rng, kind: u64) -> (Draft, Expected) {
             };
             (draft, expected)
         }
-        42 => {
+        46 => {
             // A file at the very end.
             let mut draft = Draft::new(rng, 0);
             let list = vec![extent(97, 3, REPEATED, 3, 1, 1, 4)];
@@ -215,7 +216,7 @@ pub fn edge(rng: &mut Rng, kind: u64) -> (Draft, Expected) {
         }
         _ => {
             // The same file with one byte behind it.
-            let (mut draft, _) = edge(rng, 42);
+            let (mut draft, _) = edge(rng, 46);
             draft.bytes.push(6);
             (draft, refused(1, 0, 0))
         }
@@ -269,6 +270,33 @@ fn sample(rng: &mut Rng) -> Draft {
     let mut draft = Draft::new(rng, 0);
     draft.push_timed(1, &image::data(1, b"1,5"));
     draft
+}
+
+/// The same time twice, a lower one, a link with its inode at one time, and
+/// time 0 behind a table.
+fn times(rng: &mut Rng, which: u64) -> (Draft, Expected) {
+    let last = rng.pick(&[1, 7, TOP]);
+    let mut draft = Draft::new(rng, u64::from(which == 3));
+    let data = |draft: &mut Draft, time| draft.push_timed(time, &image::data(time, b"1,5"));
+    match which {
+        0 => {
+            let time = rng.pick(&[0, last]);
+            data(&mut draft, time);
+            data(&mut draft, time);
+        }
+        1 => {
+            data(&mut draft, last);
+            let lower = time::lower(rng, last);
+            draft.push(&image::data(lower, b"1,5"));
+            return (draft, refused(14, 104, 1));
+        }
+        2 => draft.linked_inode(rng, last),
+        _ => {
+            draft.push(&image::table(0, b""));
+            data(&mut draft, 0);
+        }
+    }
+    (draft, Expected::Accepted)
 }
 
 fn one_file(rng: &mut Rng, list: Vec<Extent>) -> Draft {

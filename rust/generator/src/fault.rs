@@ -3,7 +3,7 @@
 use crate::draft::{self, Draft, File};
 use crate::image::{self, Stat, LIMIT};
 use crate::rng::Rng;
-use crate::{extents, text};
+use crate::{extents, text, time};
 
 const TOP: u64 = u64::MAX;
 
@@ -113,8 +113,10 @@ fn block_fault(rng: &mut Rng, number: u64) -> Planned {
         draft.table_if_due(rng);
         let many = rng.below(4);
         draft.blocks(rng, many);
-        if number == 14 && draft.last.is_none() {
-            draft.block(rng);
+        // Only after a time above 0 is there a lower one.
+        while number == 14 && draft.last.unwrap_or(0) == 0 {
+            let time = time::following(rng, draft.last);
+            draft.block(rng, time);
         }
     }
     let offset = draft.offset();
@@ -196,13 +198,10 @@ fn out_of_place(rng: &mut Rng, due: bool) -> Vec<u8> {
     image
 }
 
-/// A sound block that is not a table.
+/// A block that is not a table, sound but perhaps for its time.
 fn any_block(rng: &mut Rng, time: u64) -> Vec<u8> {
     let mut scrap = Draft::new(rng, 0);
-    scrap.last = time.checked_sub(1);
-    if !scrap.block(rng) {
-        return image::data(time, b"");
-    }
+    scrap.block(rng, time);
     scrap.bytes.split_off(80)
 }
 
@@ -223,8 +222,8 @@ fn over_limit(rng: &mut Rng, draft: &mut Draft, in_table: bool) -> Vec<u8> {
         }
         return image;
     }
-    let late = rng.once_in(4);
-    let time = wished_time(rng, draft, late);
+    let lower = rng.once_in(4);
+    let time = wished_time(rng, draft, lower);
     let size = rng.number();
     let stat = Stat {
         mode: 0x8000 | rng.below(4_096) as u16,
@@ -261,16 +260,11 @@ fn note_file(draft: &mut Draft, size: u64) {
     });
 }
 
-/// A good time, or one that is not after the last.
+/// A good time or, if there is one, a lower time than the last.
 fn wished_time(rng: &mut Rng, draft: &Draft, wrong: bool) -> u64 {
     match draft.last {
-        Some(last) if wrong => match rng.below(4) {
-            0 => 0,
-            1 => last.saturating_sub(1),
-            2 => rng.between(0, last),
-            _ => last,
-        },
-        last => draft::later(rng, last).unwrap_or(TOP),
+        Some(last @ 1..) if wrong => time::lower(rng, last),
+        last => time::following(rng, last),
     }
 }
 
@@ -288,8 +282,8 @@ fn cut_short(rng: &mut Rng, draft: &mut Draft, in_table: bool) -> Vec<u8> {
         }
         return image;
     }
-    let late = rng.once_in(4);
-    let time = wished_time(rng, draft, late);
+    let lower = rng.once_in(4);
+    let time = wished_time(rng, draft, lower);
     if rng.once_in(3) {
         return stating_more(rng, time);
     }

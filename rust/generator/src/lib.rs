@@ -17,6 +17,7 @@ pub mod image;
 mod question;
 pub mod rng;
 pub mod text;
+pub mod time;
 
 use std::fmt::Write;
 

@@ -1,7 +1,10 @@
 //! Archives are what their kind says, and have in them what they are made for.
 
+mod common;
+
 use std::collections::BTreeMap;
 
+use common::Found;
 use generator::archive::{archive, describe, Archive, Kind};
 use independent::extent::{extents, REPEATED};
 use independent::{lookup, runs, set_faults, Extent, File, Inode, Place};
@@ -63,15 +66,7 @@ fn a_seed_gives_one_archive() {
     assert_ne!(archive(1).volumes, archive(2).volumes);
 }
 
-/// How often something is found in the archives.
-#[derive(Default)]
-struct Found(BTreeMap<&'static str, u64>);
-
 impl Found {
-    fn note(&mut self, what: &'static str, is_so: bool) {
-        *self.0.entry(what).or_insert(0) += u64::from(is_so);
-    }
-
     fn set(&mut self, set: &Set<'_>) {
         self.note("numbers are missing", !set.missing().is_empty());
         for (&number, inode) in set.inodes() {
@@ -112,6 +107,8 @@ impl Found {
             self.note("replaced in a later volume", elsewhere);
             let later = elsewhere && older.stat.time > current.stat.time;
             self.note("replaced by an earlier time", later);
+            let equal = elsewhere && older.stat.time == current.stat.time;
+            self.note("replaced by an equal time", equal);
             let kinds = [older.stat.mode >> 12, current.stat.mode >> 12];
             self.note("replaced by another type", kinds[0] != kinds[1]);
             if !elsewhere {

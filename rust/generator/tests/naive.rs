@@ -256,3 +256,29 @@ fn links_twice() {
     }
     assert!((4_000..16_000).contains(&refused), "{refused}");
 }
+
+#[test]
+fn times() {
+    let mut rng = Rng::new(3);
+    let mut refused = 0;
+    for _ in 0..20_000 {
+        let least = rng.pick(&[0, 5, u64::MAX - 3]);
+        let many = rng.between(1, 5);
+        let list: Vec<u64> = (0..many).map(|_| least + rng.below(4)).collect();
+        let mut draft = generator::draft::Draft::new(&mut rng, 0);
+        for &time in &list {
+            draft.push(&image::data(time, b""));
+        }
+        let falls = (1..list.len()).find(|&k| list[k - 1] > list[k]);
+        match check(&draft.bytes) {
+            Verdict::Accepted { end, .. } => {
+                assert_eq!((falls, end.last), (None, list.last().copied()));
+            }
+            Verdict::Refused { number, blocks, .. } => {
+                assert_eq!((number, Some(blocks as usize)), (14, falls));
+                refused += 1;
+            }
+        }
+    }
+    assert!((4_000..16_000).contains(&refused), "{refused}");
+}

@@ -1,9 +1,9 @@
 //! What is logged in an archive, volume by volume.
 
-use crate::draft::{any_stat, later, other_mode};
+use crate::draft::{any_stat, other_mode};
 use crate::image::{self, Stat};
 use crate::rng::Rng;
-use crate::text;
+use crate::{text, time};
 
 /// Names are short here: odd texts matter, and long ones are in other cases.
 const NAME: usize = 40;
@@ -66,9 +66,9 @@ impl Log {
         if sequence > 0 {
             plan.push(Piece::Image(self.table(rng)));
         }
-        // Times need not rise from one volume to the next, and then a block's
+        // From one volume to the next a time may be lower, and then a block's
         // time does not tell whether it is the current one.
-        if rng.once_in(3) || self.last == Some(u64::MAX) {
+        if rng.once_in(3) {
             self.last = None;
         }
         let many = match rng.below(12) {
@@ -77,11 +77,13 @@ impl Log {
             _ => rng.between(1, 9),
         };
         for _ in 0..many {
-            let Some(time) = later(rng, self.last) else {
-                break;
-            };
+            let time = time::following(rng, self.last);
             self.last = Some(time);
-            plan.push(self.block(rng, time));
+            if rng.once_in(16) {
+                plan.extend(self.linked_file(rng, time));
+            } else {
+                plan.push(self.block(rng, time));
+            }
         }
         plan
     }
@@ -91,7 +93,10 @@ impl Log {
         match rng.below(8) {
             0 => self.standing.clear(),
             1 => self.standing.retain(|_| !rng.once_in(3)),
-            2 => self.stand(rng),
+            2 => {
+                let child = self.number(rng);
+                self.stand(rng, child);
+            }
             _ => {}
         }
         let links: Vec<Vec<u8>> = self
@@ -103,8 +108,7 @@ impl Log {
     }
 
     /// A link more, unless its parent has the name already.
-    fn stand(&mut self, rng: &mut Rng) {
-        let child = self.number(rng);
+    fn stand(&mut self, rng: &mut Rng, child: u64) {
         let parent = self.number(rng);
         let name = text::sound(rng, NAME);
         let taken = |link: &Link| link.parent == parent && link.name == name;
@@ -128,7 +132,10 @@ impl Log {
 
     fn block(&mut self, rng: &mut Rng, time: u64) -> Piece {
         match rng.below(16) {
-            0..=4 => self.file(rng, time),
+            0..=4 => {
+                let inode = rng.pick(&self.numbers);
+                self.file(rng, time, inode)
+            }
             5..=7 => {
                 let most = rng.pick(&[10, 100, 600]);
                 let length = rng.index(most);
@@ -136,7 +143,10 @@ impl Log {
             }
             8 => self.symbolic_link(rng, time),
             9 => self.other_inode(rng, time),
-            10 | 11 => self.link(rng, time),
+            10 | 11 => {
+                let child = self.number(rng);
+                self.link(rng, time, child)
+            }
             12 | 13 => self.unlink(rng, time),
             14 => self.attribute(rng, time),
             _ => {
@@ -156,7 +166,7 @@ impl Log {
     }
 
     /// A regular file, whose size is chosen with its extents.
-    fn file(&self, rng: &mut Rng, time: u64) -> Piece {
+    fn file(&self, rng: &mut Rng, time: u64, inode: u64) -> Piece {
         let extents = match rng.below(4_000) {
             0..=5 => 1_024,
             6..=40 => rng.between(20, 120),
@@ -164,10 +174,22 @@ impl Log {
             _ => rng.between(1, 9),
         };
         let mode = 0x8000 | rng.below(4_096) as u16;
+        let stat = Stat {
+            inode,
+            mode,
+            ..any_stat(rng, time, 0)
+        };
         Piece::File {
-            stat: self.stat(rng, time, mode, 0),
+            stat,
             extents: extents as usize,
         }
+    }
+
+    /// A link and the file that it names, at one time: a fast logger writes
+    /// them in the same microsecond.
+    fn linked_file(&mut self, rng: &mut Rng, time: u64) -> [Piece; 2] {
+        let number = rng.pick(&self.numbers);
+        [self.link(rng, time, number), self.file(rng, time, number)]
     }
 
     fn symbolic_link(&self, rng: &mut Rng, time: u64) -> Piece {
@@ -183,12 +205,12 @@ impl Log {
     }
 
     /// A link block is sound even where the same link stands already.
-    fn link(&mut self, rng: &mut Rng, time: u64) -> Piece {
+    fn link(&mut self, rng: &mut Rng, time: u64, child: u64) -> Piece {
         let before = self.standing.len();
-        self.stand(rng);
+        self.stand(rng, child);
         Piece::Image(match self.standing.get(before) {
             Some(new) => image::link(image::LINK, time, new.child, new.parent, &new.name),
-            None => image::link(image::LINK, time, self.number(rng), 1, b"again"),
+            None => image::link(image::LINK, time, child, 1, b"again"),
         })
     }
 
