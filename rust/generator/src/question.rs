@@ -3,7 +3,7 @@
 use crate::draft::Draft;
 use crate::image::Extent;
 use crate::rng::Rng;
-use crate::{Case, Mark};
+use crate::{time, Case, Mark};
 
 const TOP: u64 = u64::MAX;
 
@@ -151,29 +151,19 @@ fn ranges(rng: &mut Rng, draft: &Draft, points: &[u64], most: usize) -> Vec<(u64
 
 /// Bookmarks as a reading gives them, and others made up.
 fn bookmarks(rng: &mut Rng, draft: &Draft, most: usize) -> Vec<Mark> {
-    let mut list = Vec::new();
-    for (place, &offset) in draft.places.iter().enumerate() {
-        list.push(Mark {
-            offset,
-            due: place == 0 && draft.sequence > 0,
-            last: draft.times[place],
-        });
-    }
-    list.push(Mark {
-        offset: draft.bytes.len() as u64,
-        due: false,
-        last: draft.last,
-    });
+    let mut list = true_bookmarks(draft);
     rng.shuffle(&mut list);
     list.truncate(most - 2);
-    for mark in &mut list {
-        match rng.below(8) {
+    for (mark, time) in &mut list {
+        match rng.below(10) {
             0 => mark.due = !mark.due,
             1 => mark.last = None,
             2 => mark.last = Some(rng.number()),
+            3 | 4 => mark.last = time.map(|time| time::around(rng, time)),
             _ => {}
         }
     }
+    let mut list: Vec<Mark> = list.into_iter().map(|(mark, _)| mark).collect();
     for _ in 0..2 {
         list.push(Mark {
             offset: odd_offset(rng, draft),
@@ -181,6 +171,32 @@ fn bookmarks(rng: &mut Rng, draft: &Draft, most: usize) -> Vec<Mark> {
             last: rng.once_in(2).then(|| rng.number()),
         });
     }
+    list
+}
+
+/// The bookmarks of a reading, each with the time that its last time is
+/// compared with: the block's or, since a table has none, that of the block
+/// behind the table.
+fn true_bookmarks(draft: &Draft) -> Vec<(Mark, Option<u64>)> {
+    let time_at = |place: usize| {
+        let offset = *draft.places.get(place)? as usize;
+        time::of_block(draft.bytes.get(offset..)?)
+    };
+    let at = |(place, &offset)| {
+        let mark = Mark {
+            offset,
+            due: place == 0 && draft.sequence > 0,
+            last: draft.times[place],
+        };
+        (mark, time_at(place).or_else(|| time_at(place + 1)))
+    };
+    let end = Mark {
+        offset: draft.bytes.len() as u64,
+        due: false,
+        last: draft.last,
+    };
+    let mut list: Vec<_> = draft.places.iter().enumerate().map(at).collect();
+    list.push((end, None));
     list
 }
 

@@ -35,6 +35,11 @@ pub fn lower(rng: &mut Rng, last: u64) -> u64 {
     }
 }
 
+/// The time itself, or the one just before or after it.
+pub fn around(rng: &mut Rng, time: u64) -> u64 {
+    rng.pick(&[time.saturating_sub(1), time, time.saturating_add(1)])
+}
+
 /// What stands in the time field of the block at the front, be it sound or
 /// not. A table has none.
 pub fn of_block(bytes: &[u8]) -> Option<u64> {
@@ -61,6 +66,7 @@ mod tests {
                 assert!(time >= last);
                 equal += u64::from(time == last);
                 assert!(last == 0 || lower(&mut rng, last) < last);
+                assert!(around(&mut rng, last).abs_diff(last) <= 1);
             }
             assert!(equal > 50, "{equal} times {last} after itself");
         }

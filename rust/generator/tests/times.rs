@@ -1,12 +1,13 @@
-//! Equal times occur where the rules allow them.
+//! Equal times occur where the rules allow them, and made-up bookmarks stand
+//! around the times of blocks.
 
 mod common;
 
 use common::Found;
 use generator::archive::archive;
-use generator::image::INODE;
-use generator::{case, describe, time, Expected};
-use independent::{check, read, read_header, Block, Body, Reading, Verdict};
+use generator::image::{INODE, TABLE};
+use generator::{case, describe, time, Case, Expected};
+use independent::{check, read, read_header, Block, Body, Bookmark, Reading, Refusal, Verdict};
 
 const TOP: Option<u64> = Some(u64::MAX);
 
@@ -128,6 +129,59 @@ fn archives_have_equal_times() {
     }
     found.at_least(50);
     assert!(2 * found.0["equal times"] > found.0["two blocks with times"]);
+}
+
+/// Reads by the bookmark and, where a table is read, the block behind it.
+/// Gives the last answer and the bookmark that it was read by.
+fn read_on(volume: &[u8], mark: Bookmark) -> (Result<Reading<'_>, Refusal>, Bookmark) {
+    match read(volume, mark) {
+        Ok(Reading::Block(block, next)) if block.id == TABLE => (read(volume, next), next),
+        answer => (answer, mark),
+    }
+}
+
+/// Notes how far the times of blocks are from the last times of a case's
+/// bookmarks, which alone decide whether a block that is sound is read.
+fn bookmarks(case: &Case, found: &mut Found) {
+    for mark in &case.bookmarks {
+        let mark = Bookmark {
+            offset: mark.offset,
+            due: mark.due,
+            last: mark.last,
+        };
+        let free = Bookmark { last: None, ..mark };
+        let (Ok(Reading::Block(block, _)), _) = read_on(&case.volume, free) else {
+            continue;
+        };
+        let (Some(last), Some(time)) = (mark.last, block.time) else {
+            continue;
+        };
+        let (answer, by) = read_on(&case.volume, mark);
+        let lower = (time < last).then_some(14);
+        let told = (answer.err(), by.last);
+        assert_eq!(told, (lower, Some(last)), "{}", describe(case));
+        let names = if mark.due {
+            [
+                "1 lower after a table",
+                "equal after a table",
+                "1 higher after a table",
+            ]
+        } else {
+            ["1 lower", "equal", "1 higher"]
+        };
+        for (name, step) in names.into_iter().zip([-1, 0, 1]) {
+            found.note(name, i128::from(time) - i128::from(last) == step);
+        }
+    }
+}
+
+#[test]
+fn bookmarks_stand_around_the_times_of_blocks() {
+    let mut found = Found::default();
+    for seed in 0..SEEDS {
+        bookmarks(&case(seed), &mut found);
+    }
+    found.at_least(50);
 }
 
 /// Where a volume is made to be refused with 14, a time is lower, mostly by 1.
