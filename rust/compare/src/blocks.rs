@@ -1,9 +1,10 @@
 //! Blocks, read by bookmarks.
 
 use hdrfs::sys;
+use independent::block::TABLE;
 use independent::{Bookmark, Reading};
 
-use crate::difference::{same, Difference};
+use crate::difference::{same, Answer, Difference};
 use crate::{answers, links};
 
 /// One reading. Numbers that mean "yes" are any but 0, and a last time beside "no" is not looked
@@ -32,25 +33,51 @@ fn yes(is: bool, odd: u64) -> u64 {
     }
 }
 
-/// All blocks from the header on, each by the bookmark that the proved library gave for it.
-pub fn walk(volume: &[u8]) -> Result<(), Difference> {
+/// Whether it is a block that was read, and not the end or a refusal.
+fn is_block(answer: &sys::Block) -> bool {
+    answer.refusal == 0 && answer.end == 0
+}
+
+/// Whether it is a link table, which has no time.
+#[must_use]
+pub fn is_table(answer: &sys::Block) -> bool {
+    is_block(answer) && answer.id == u64::from(TABLE)
+}
+
+/// Whether a block was read whose time is the last one before it.
+#[must_use]
+pub fn is_at_last_time(answer: &sys::Block, mark: Bookmark) -> bool {
+    is_block(answer) && !is_table(answer) && mark.last == Some(answer.time)
+}
+
+/// The bookmark after a block that was read.
+#[must_use]
+pub fn after(block: &sys::Block) -> Bookmark {
+    Bookmark {
+        offset: block.next,
+        due: block.due != 0,
+        last: (block.timed != 0).then_some(block.last),
+    }
+}
+
+/// All blocks from the header on, each by the bookmark that the proved library gave for it. Answers
+/// how many have the time that is the last one before them.
+pub fn walk(volume: &[u8]) -> Answer {
     let heading = sys::header(volume);
     let mut mark = Bookmark {
         due: heading.due != 0,
         ..Bookmark::at(heading.next)
     };
+    let mut equal = 0;
     if heading.refusal != 0 {
-        return Ok(());
+        return Ok(equal);
     }
     loop {
         let block = read(volume, mark, 0)?;
-        if block.refusal != 0 || block.end != 0 {
-            return Ok(());
+        if !is_block(&block) {
+            return Ok(equal);
         }
-        mark = Bookmark {
-            offset: block.next,
-            due: block.due != 0,
-            last: (block.timed != 0).then_some(block.last),
-        };
+        equal += u64::from(is_at_last_time(&block, mark));
+        mark = after(&block);
     }
 }

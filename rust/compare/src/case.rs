@@ -38,7 +38,7 @@ fn whole(case: &Case, tally: &mut Tally) -> Result<(), Difference> {
     tally.header[volume::header(bytes)? as usize] += 1;
     tally.header[volume::header(&case.other)? as usize] += 1;
     as_made(case, &checked)?;
-    blocks::walk(bytes)?;
+    tally.equal[0] += blocks::walk(bytes)?;
     links::anywhere(bytes)
 }
 
@@ -59,6 +59,7 @@ fn as_made(case: &Case, checked: &sys::Checked) -> Result<(), Difference> {
     })
 }
 
+/// A reading by each bookmark. A table leaves the last time as it was, so the block behind it is read too.
 fn marks(case: &Case, tally: &mut Tally) -> Result<(), Difference> {
     for (place, mark) in case.bookmarks.iter().enumerate() {
         let mark = Bookmark {
@@ -69,6 +70,13 @@ fn marks(case: &Case, tally: &mut Tally) -> Result<(), Difference> {
         let odd = case.seed.wrapping_add(place as u64);
         let block = blocks::read(&case.volume, mark, odd)?;
         tally.read[block.refusal as usize] += 1;
+        tally.equal[1] += u64::from(blocks::is_at_last_time(&block, mark));
+        if blocks::is_table(&block) {
+            let mark = blocks::after(&block);
+            let behind = blocks::read(&case.volume, mark, odd)?;
+            tally.read[behind.refusal as usize] += 1;
+            tally.equal[2] += u64::from(blocks::is_at_last_time(&behind, mark));
+        }
     }
     Ok(())
 }

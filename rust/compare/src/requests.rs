@@ -18,6 +18,22 @@ pub enum Request {
     Table(u64, Vec<u8>),
 }
 
+impl Request {
+    /// The time that it asks for; a table has none.
+    pub fn time_mut(&mut self) -> Option<&mut u64> {
+        match self {
+            Request::Inode(stat, _) => Some(&mut stat.time),
+            Request::Link(time, ..)
+            | Request::Unlink(time, ..)
+            | Request::Xattr(time, ..)
+            | Request::RemovedXattr(time, ..)
+            | Request::Data(time, ..)
+            | Request::Rename(time, ..) => Some(time),
+            Request::Table(..) => None,
+        }
+    }
+}
+
 /// Modes of a regular file, a symbolic link, a folder, and of no known type.
 const MODES: [u16; 4] = [0x81A4, 0xA1FF, 0x41ED, 0x0000];
 

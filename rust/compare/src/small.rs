@@ -3,7 +3,7 @@
 use generator::draft::{self, Draft};
 use generator::image::{self, Extent, Stat, COUNTED, REPEATED};
 use generator::rng::Rng;
-use generator::text;
+use generator::{text, time};
 
 /// The volume of a number. Every second has a link table.
 #[must_use]
@@ -17,7 +17,7 @@ pub fn volume(number: u64) -> Draft {
     let mut kinds = [0, 1, 2, 3, 4, 5, 6, 7, 8];
     rng.shuffle(&mut kinds);
     for kind in kinds {
-        let time = draft.last.map_or(number, |last| last + 1 + rng.below(300));
+        let time = time::following(rng, draft.last);
         if kind == 0 {
             let (size, list) = file(rng);
             draft.file(rng, time, size, list);

@@ -5,6 +5,9 @@ use independent::refusal::LARGEST;
 /// One count for each refusal number; 0 stands for no refusal.
 pub type Numbers = [u64; LARGEST + 1];
 
+/// How blocks with a last time before them are come to.
+pub const WAYS: [&str; 3] = ["from the header on", "by a bookmark", "behind a table"];
+
 /// The calls, each with the refusal numbers that it can give.
 macro_rules! tally {
     ($($call:ident: $possible:expr;)*) => {
@@ -14,6 +17,8 @@ macro_rules! tally {
             $(pub $call: Numbers,)*
             /// Holes, stored bytes and positions past the end.
             pub kinds: [u64; 3],
+            /// Blocks read at the very last time before them, in each of [`WAYS`].
+            pub equal: [u64; 3],
         }
 
         impl Tally {
@@ -21,6 +26,7 @@ macro_rules! tally {
             pub fn add(&mut self, other: &Tally) {
                 $(add(&mut self.$call, &other.$call);)*
                 add(&mut self.kinds, &other.kinds);
+                add(&mut self.equal, &other.equal);
             }
 
             /// The calls with what was counted of them and what can occur.
@@ -33,6 +39,7 @@ macro_rules! tally {
             fn full() -> Tally {
                 let mut tally = Tally {
                     kinds: [1; 3],
+                    equal: [1; 3],
                     ..Tally::default()
                 };
                 $(for number in $possible {
@@ -73,6 +80,11 @@ impl Tally {
                 faults.push(format!("lookup: no position of kind {kind}"));
             }
         }
+        for (way, count) in WAYS.iter().zip(self.equal) {
+            if count == 0 {
+                faults.push(format!("read: no equal time {way}"));
+            }
+        }
         faults
     }
 
@@ -90,7 +102,11 @@ impl Tally {
             }
         }
         let [holes, stored, past_end] = self.kinds;
-        text + &format!("\nholes {holes}, stored {stored}, past end {past_end}")
+        text += &format!("\nholes {holes}, stored {stored}, past end {past_end}");
+        for (way, count) in WAYS.iter().zip(self.equal) {
+            text += &format!("\nequal times {way}: {count}");
+        }
+        text
     }
 }
 
@@ -118,13 +134,18 @@ mod tests {
         assert!(Tally::full().faults().is_empty());
         let mut less = Tally::full();
         less.runs[17] = 0;
-        assert_eq!(less.faults(), ["runs: answer 17 came 0 times"]);
+        less.equal[2] = 0;
+        let missing = [
+            "runs: answer 17 came 0 times",
+            "read: no equal time behind a table",
+        ];
+        assert_eq!(less.faults(), missing);
         let mut more = Tally::full();
         more.lookup[18] = 3;
         assert_eq!(more.faults(), ["lookup: answer 18 came 3 times"]);
         assert_eq!(
             Tally::default().faults().len(),
-            15 + 7 + 12 + 12 + 13 + 8 + 3
+            15 + 7 + 12 + 12 + 13 + 8 + 3 + 3
         );
     }
 }

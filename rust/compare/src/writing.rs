@@ -1,6 +1,7 @@
 //! Appends and header writers: the answer, and every byte of the buffer.
 
 use generator::rng::Rng;
+use generator::time;
 use hdrfs::sys::{self, Written};
 use independent::{self as plain, Bookmark, Refusal};
 
@@ -35,18 +36,23 @@ pub fn header(buffer: &mut [u8], id: &[u8], sequence: u64, previous: &[u8]) -> A
     Ok(written.refusal)
 }
 
-/// A bookmark that no call handed out.
-pub fn made_up(rng: &mut Rng, room: usize) -> Bookmark {
+/// A bookmark that no call handed out. Its last time is often near the time that is asked for.
+pub fn made_up(rng: &mut Rng, room: usize, time: Option<u64>) -> Bookmark {
     let offset = match rng.below(6) {
         0 => rng.below(80),
         1 => rng.number(),
         2 => 16_777_216 - rng.below(200),
         _ => 80 + rng.below(room as u64 + 1),
     };
+    let last = match (rng.below(4), time) {
+        (0, _) => None,
+        (1, _) | (_, None) => Some(rng.number()),
+        (_, Some(time)) => Some(time::around(rng, time)),
+    };
     Bookmark {
         offset,
         due: rng.once_in(3),
-        last: (!rng.once_in(3)).then(|| rng.number()),
+        last,
     }
 }
 

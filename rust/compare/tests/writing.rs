@@ -7,6 +7,7 @@ use compare::seeds::{Seeds, USUAL};
 use compare::tally::Numbers;
 use compare::writing::{append, header, made_up};
 use generator::rng::Rng;
+use generator::time;
 use hdrfs::sys;
 use independent::refusal::LARGEST;
 use independent::Bookmark;
@@ -19,20 +20,34 @@ const HEADER: [usize; 4] = [0, 6, 11, 17];
 struct Counts {
     append: Numbers,
     header: Numbers,
+    /// Blocks accepted at the last time before them, and blocks refused since their time is one
+    /// lower. First those of lists, then those at made-up bookmarks.
+    equal: [u64; 2],
+    one_lower: [u64; 2],
 }
 
-/// A time that is mostly later than the last one, so that lists get long.
-fn later(rng: &mut Rng, last: Option<u64>, request: &mut Request) {
-    let time = match request {
-        Request::Inode(stat, _) => &mut stat.time,
-        Request::Link(time, ..) | Request::Unlink(time, ..) => time,
-        Request::Xattr(time, ..) | Request::RemovedXattr(time, ..) => time,
-        Request::Data(time, _) | Request::Rename(time, ..) => time,
-        Request::Table(..) => return,
-    };
-    if !rng.once_in(6) {
-        *time = last.map_or(0, |last| last.saturating_add(1 + rng.below(9)));
+impl Counts {
+    fn note(&mut self, kind: usize, mark: Bookmark, time: Option<u64>, number: u64) {
+        self.append[number as usize] += 1;
+        let (Some(last), Some(time)) = (mark.last, time) else {
+            return;
+        };
+        self.equal[kind] += u64::from(number == 0 && time == last);
+        let one_lower = time.checked_add(1) == Some(last);
+        self.one_lower[kind] += u64::from(number == 14 && one_lower);
     }
+}
+
+/// Changes the time, if the request has one, to one that mostly may follow, so that lists get long.
+/// Answers it.
+fn set_time(rng: &mut Rng, last: Option<u64>, request: &mut Request) -> Option<u64> {
+    let time = request.time_mut()?;
+    match (rng.below(8), last) {
+        (0, _) => {}
+        (1, Some(last @ 1..)) => *time = time::lower(rng, last),
+        _ => *time = time::following(rng, last),
+    }
+    Some(*time)
 }
 
 fn headers(rng: &mut Rng, counts: &mut Counts) -> Result<(), String> {
@@ -61,14 +76,14 @@ fn list(rng: &mut Rng, counts: &mut Counts) -> Result<(), String> {
     };
     for _ in 0..rng.below(30) {
         let mut asked = request(rng);
-        later(rng, mark.last, &mut asked);
+        let time = set_time(rng, mark.last, &mut asked);
         let (number, next) = append(&mut buffer, mark, &asked).map_err(|d| d.to_string())?;
-        counts.append[number as usize] += 1;
+        counts.note(0, mark, time, number);
         mark = next;
-        let elsewhere = made_up(rng, room);
+        let elsewhere = made_up(rng, room, time);
         let mut copy = buffer.clone();
         let (number, _) = append(&mut copy, elsewhere, &asked).map_err(|d| d.to_string())?;
-        counts.append[number as usize] += 1;
+        counts.note(1, elsewhere, time, number);
     }
     if !mark.due {
         let volume = &buffer[..mark.offset as usize];
@@ -87,18 +102,23 @@ fn appends_agree() {
         list(&mut rng, counts).map_err(|told| format!("seed {seed}: {told}"))
     });
     let counted = counted.unwrap_or_else(|told| panic!("{told}"));
-    let sum = |of: fn(&Counts) -> &Numbers, number: usize| -> u64 {
-        counted.iter().map(|counts| of(counts)[number]).sum()
-    };
+    let sum = |of: &dyn Fn(&Counts) -> u64| -> u64 { counted.iter().map(of).sum() };
+    let enough = asked.count >= USUAL;
     for number in 0..=LARGEST {
-        let appends = sum(|counts| &counts.append, number);
-        let headers = sum(|counts| &counts.header, number);
+        let appends = sum(&|counts| counts.append[number]);
+        let headers = sum(&|counts| counts.header[number]);
         println!("{number}: {appends} appends, {headers} headers");
         assert!(appends == 0 || APPEND.contains(&number));
         assert!(headers == 0 || HEADER.contains(&number));
-        if asked.count >= USUAL {
+        if enough {
             assert!(appends > 0 || !APPEND.contains(&number), "append {number}");
             assert!(headers > 0 || !HEADER.contains(&number), "header {number}");
         }
+    }
+    for (kind, name) in ["lists", "made-up bookmarks"].into_iter().enumerate() {
+        let equal = sum(&|counts| counts.equal[kind]);
+        let one_lower = sum(&|counts| counts.one_lower[kind]);
+        println!("{name}: {equal} at the last time, {one_lower} one lower");
+        assert!(equal > 1_000 && one_lower > 1_000 || !enough, "{name}");
     }
 }
