@@ -3,22 +3,9 @@
 mod support;
 
 use support::json::{object, Object};
-use support::volumes::{data, file, header, inode, sealed, small_volume, table, Extent, FOLDER};
+use support::volumes::{data, file, header, inode, link, sealed, small_volume, table, Extent};
+use support::volumes::{FOLDER, LINK, UNLINK};
 use support::{of_file_system, Folder, NO_HASH, NO_ID};
-
-const LINK: u8 = 2;
-const UNLINK: u8 = 3;
-
-/// A link or unlink block.
-fn link(kind: u8, time: u64, child: u64, parent: u64, name: &str) -> Vec<u8> {
-    let mut body = vec![kind];
-    for number in [time, child, parent] {
-        body.extend(number.to_le_bytes());
-    }
-    body.extend((name.len() as u16).to_le_bytes());
-    body.extend(name.as_bytes());
-    sealed(body)
-}
 
 /// A block of the other kinds, from the parts of its layout.
 fn block(parts: &[&[u8]]) -> Vec<u8> {

@@ -5,6 +5,10 @@
 pub const REGULAR: u16 = 0o100_644;
 pub const FOLDER: u16 = 0o040_755;
 
+/// The kinds of blocks that [`link`] makes.
+pub const LINK: u8 = 2;
+pub const UNLINK: u8 = 3;
+
 /// The multiplicity of an extent that lies in one piece, and of one that repeats its block.
 pub const CONTIGUOUS: u8 = 67;
 pub const REPEATED: u8 = 82;
@@ -54,6 +58,17 @@ pub fn inode(time: u64, number: u64, mode: u16, size: u64, rest: &[u8]) -> Vec<u
 pub fn file(time: u64, number: u64, size: u64, extents: &[Extent]) -> Vec<u8> {
     let rest: Vec<u8> = extents.iter().flat_map(Extent::bytes).collect();
     inode(time, number, REGULAR, size, &rest)
+}
+
+/// A link or unlink block.
+pub fn link(kind: u8, time: u64, child: u64, parent: u64, name: &str) -> Vec<u8> {
+    let mut body = vec![kind];
+    for number in [time, child, parent] {
+        body.extend(number.to_le_bytes());
+    }
+    body.extend((name.len() as u16).to_le_bytes());
+    body.extend(name.as_bytes());
+    sealed(body)
 }
 
 pub fn data(time: u64, payload: &[u8]) -> Vec<u8> {
