@@ -5,7 +5,7 @@ mod support;
 use std::fs::File;
 
 use support::json::object;
-use support::volumes::{data, header, small_volume, table};
+use support::volumes::{data, header, inode, link, small_volume, table, FOLDER, LINK};
 use support::{Answer, Folder, NO_HASH, NO_ID};
 
 /// A sound volume, a damaged one, one with nothing but a table, and one that is cut.
@@ -26,6 +26,16 @@ fn a_sound_volume() {
     let lines = "sound: accepted, volume 0, blocks 1, end 104, last time 7\n\
                  1 file: 1 accepted, 0 refused, 0 not read\n";
     answer.is(0, lines, "");
+}
+
+#[test]
+fn a_link_and_its_inode_at_one_time() {
+    let folder = Folder::new("check_one_time");
+    let blocks = [link(LINK, 5, 8, 1, "a"), inode(5, 8, FOLDER, 70, &[])];
+    folder.put("v", &[header(0), blocks.concat()].concat());
+    let lines = "v: accepted, volume 0, blocks 2, end 187, last time 5\n\
+                 1 file: 1 accepted, 0 refused, 0 not read\n";
+    folder.run("check v").is(0, lines, "");
 }
 
 #[test]
@@ -137,12 +147,12 @@ fn the_blocks_before_a_fault_are_counted() {
     let folder = Folder::new("check_blocks");
     let blocks = [
         table(&[]),
-        data(1, b"1,5"),
+        data(2, b"1,5"),
         data(2, b"2,5"),
-        data(2, b"3,5"),
+        data(1, b"3,5"),
     ];
     folder.put("v", &[header(4), blocks.concat()].concat());
-    let lines = "v: refused 14 at 141: time not later than the one before; \
+    let lines = "v: refused 14 at 141: time lower than the last one; \
                  3 blocks accepted before\n1 file: 0 accepted, 1 refused, 0 not read\n";
     folder.run("check v").is(1, lines, "");
     let answer = folder.run("check v --json");

@@ -16,6 +16,14 @@ fn the_listing_of_the_rules() {
 }
 
 #[test]
+fn two_blocks_at_one_time() {
+    let folder = Folder::new("list_one_time");
+    folder.put("v", &[small_volume(), data(7, b"1,5")].concat());
+    let lines = "offset id length\n80 6 24\n104 6 24\nend 128 blocks 2\n";
+    folder.run("list v").is(0, lines, "");
+}
+
+#[test]
 fn a_header_alone() {
     let folder = Folder::new("list_header");
     folder.put("v", &header(0));
@@ -30,12 +38,11 @@ fn accepted_blocks_come_before_the_refusal() {
     let blocks = [
         table(&[(8, 1, b"log")]),
         inode(5, 2, FOLDER, 70, &[]),
-        data(5, b"x"),
+        data(4, b"x"),
     ];
     folder.put("v", &[header(4), blocks.concat()].concat());
     let lines = "offset id length\n80 8 34\n114 1 75\nrefused 14 at 189\n";
-    let words =
-        "v: refused 14 at 189: time not later than the one before; 2 blocks accepted before\n";
+    let words = "v: refused 14 at 189: time lower than the last one; 2 blocks accepted before\n";
     folder.run("list v").is(1, lines, words);
 }
 

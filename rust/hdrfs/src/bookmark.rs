@@ -23,7 +23,8 @@ pub struct Bookmark {
     pub offset: u64,
     /// Whether it has to be a link table.
     pub table_due: bool,
-    /// The last time before it, if there was any. No time is not the same as time 0.
+    /// The last time before it, if there was any. After no time and after time 0 the same times may
+    /// follow; this tells which of the two it was.
     pub last_time: Option<u64>,
 }
 

@@ -97,8 +97,8 @@ numbers! {
     /// two links of a table have the same parent and the same name
     LINK_TWICE = 13, "same link twice in a table";
 
-    /// a time is not greater than the last one before it
-    NOT_LATER = 14, "time not later than the one before";
+    /// a time is lower than the last one before it
+    TIME_LOWER = 14, "time lower than the last one";
 
     /// the block at the offset isn't the inode of a regular file
     NOT_REGULAR = 15, "not the inode of a regular file";
@@ -172,7 +172,7 @@ impl Error for Refusal {}
 /// fn sequence(volume: &[u8]) -> Result<u64, Refusal> {
 ///     Ok(Volume::check(volume)?.sequence())
 /// }
-/// let bytes = std::fs::read("same_time.vol")?;
+/// let bytes = std::fs::read("lower_time.vol")?;
 /// let rejected = Volume::check(&bytes).unwrap_err();
 /// assert_eq!(rejected.blocks, 1);
 /// assert_eq!(sequence(&bytes), Err(rejected.refusal));

@@ -81,7 +81,7 @@ impl Volume {
     /// use hdrfs::Volume;
     /// # std::env::set_current_dir("../../crates/samples/data")?;
     ///
-    /// let bytes = std::fs::read("same_time.vol")?;
+    /// let bytes = std::fs::read("lower_time.vol")?;
     /// let mut blocks = Volume::blocks(&bytes);
     /// assert_eq!(blocks.next().unwrap()?.offset, 80);
     /// assert_eq!(blocks.next().unwrap().unwrap_err().number, 14);

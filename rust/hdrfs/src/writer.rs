@@ -96,7 +96,7 @@ impl<'a> Writer<'a> {
     /// writer.append_data(7, b"1,5")?;
     /// let mark = Bookmark::at(104).with_last_time(Some(7));
     /// assert_eq!(writer.bookmark(), mark);
-    /// assert_eq!(writer.append_data(7, b"1,6").unwrap_err().number, 14);
+    /// assert_eq!(writer.append_data(6, b"1,6").unwrap_err().number, 14);
     /// assert_eq!(writer.bookmark(), mark);
     /// # Ok::<(), hdrfs::Refusal>(())
     /// ```

@@ -103,8 +103,8 @@ fn refusals_say_where() {
     let mut damaged = volume.clone();
     damaged[98] = b'.';
     assert_eq!(compare("damaged", &damaged), refusal(5, 80));
-    let twice = [volume.clone(), data(7, b"2,5")].concat();
-    assert_eq!(compare("same time", &twice), refusal(14, 104));
+    let lower = [volume, data(6, b"2,5")].concat();
+    assert_eq!(compare("lower time", &lower), refusal(14, 104));
 }
 
 #[test]
@@ -216,7 +216,8 @@ fn made_up_bookmarks_are_served() {
     let end = volume.len() as u64;
     assert_eq!(number(mark(79, false, None)), Some(Err(8)));
     assert_eq!(number(mark(80, false, Some(6))), Some(Ok(6)));
-    assert_eq!(number(mark(80, false, Some(7))), Some(Err(14)));
+    assert_eq!(number(mark(80, false, Some(7))), Some(Ok(6)));
+    assert_eq!(number(mark(80, false, Some(8))), Some(Err(14)));
     assert_eq!(number(mark(104, false, None)), Some(Err(8)));
     assert_eq!(number(mark(104, true, None)), Some(Ok(8)));
     assert_eq!(number(mark(end, false, None)), None);

@@ -131,8 +131,8 @@ appends! {
     /// let mut buf = [0; 104];
     /// let written = hdrfs::sys::append_data(&mut buf, 80, 0, 1, 6, 7, b"1,5");
     /// assert_eq!((written.refusal, written.next), (0, 104));
-    /// let later = hdrfs::sys::append_data(&mut buf, 80, 0, 1, 7, 7, b"1,5");
-    /// assert_eq!(later.refusal, 14);
+    /// let lower = hdrfs::sys::append_data(&mut buf, 80, 0, 1, 8, 7, b"1,5");
+    /// assert_eq!(lower.refusal, 14);
     /// ```
     append_data calls hdrfs_append_data(time: u64; payload);
 
