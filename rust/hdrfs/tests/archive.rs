@@ -192,6 +192,27 @@ fn the_last_block_in_the_highest_volume_is_current() {
     );
 }
 
+/// Of blocks at one time the last is current: its place decides, and not its time.
+#[test]
+fn blocks_at_one_time_keep_their_order() {
+    let archive = in_memory(&[volume(0, |draft| {
+        draft.at_one_time();
+        draft.link(7, "first");
+        draft.file(7, 1, &[]);
+        draft.file(8, 2, &[]);
+        draft.unlink(8, "gone");
+        draft.file(7, 3, &[]);
+        draft.unlink(7, "first");
+        draft.link(7, "second");
+    })])
+    .unwrap();
+    let inode = |number| archive.inode(number).unwrap();
+    assert_eq!((inode(7).size, inode(7).time), (3, 0));
+    assert_eq!((inode(8).size, inode(8).time), (2, 0));
+    assert_eq!((inode(7).unlinked, inode(8).unlinked), (false, true));
+    assert_eq!(archive.last_link(7).unwrap().name, "second");
+}
+
 #[test]
 fn every_kind_of_inode_is_told() {
     let archive = in_memory(&[volume(0, |draft| {

@@ -55,23 +55,33 @@ fn drafted<T>(
         }
         writer.append_links(&table).unwrap();
     }
-    let mut draft = Draft { writer, time: 0 };
+    let mut draft = Draft {
+        writer,
+        time: 0,
+        step: 1,
+    };
     write(&mut draft);
     draft.writer.written().to_vec()
 }
 
-/// A volume that is being written. Every block is a time later than the one before.
+/// A volume that is being written. The time of each block is `step` above that of the one before.
 pub struct Draft<'a> {
     writer: Writer<'a>,
     time: u64,
+    step: u64,
 }
 
 impl Draft<'_> {
     fn append(&mut self, append: impl FnOnce(&mut Writer<'_>, u64) -> Result<(), Refusal>) -> u64 {
         let at = self.writer.bookmark().offset;
-        self.time += 1;
+        self.time += self.step;
         append(&mut self.writer, self.time).unwrap();
         at
+    }
+
+    /// From here on all blocks have the time of the last one.
+    pub fn at_one_time(&mut self) {
+        self.step = 0;
     }
 
     /// A data block; answers where its payload begins.
