@@ -1,6 +1,6 @@
 /* Calls every function of hdrfs.h on two sound volumes, on no bytes at all, and on numbers from the edges, and prints the
- * numbers that come back, a line for each call, in the order of the struct; and writes the second volume anew. calls.expected
- * has what it must print.
+ * numbers that come back, a line for each call, in the order of the struct; and writes the second volume anew, and others whose
+ * blocks have equal and lower times. calls.expected has what it must print.
  *
  * The two volumes are the samples v.vol and all_kinds.vol.
  */
@@ -284,6 +284,7 @@ static void read_blocks(void)
     SHOW(hdrfs_block, hdrfs_read(V, sizeof V, 80, 0, 0, 7));
     SHOW(hdrfs_block, hdrfs_read(V, sizeof V, 80, 0, 1, 6));
     SHOW(hdrfs_block, hdrfs_read(V, sizeof V, 80, 0, 2, 7));
+    SHOW(hdrfs_block, hdrfs_read(V, sizeof V, 80, 0, 2, 8));
     SHOW(hdrfs_block, hdrfs_read(V, sizeof V, 79, 0, 0, 0));
     SHOW(hdrfs_block, hdrfs_read(V, sizeof V, TOP, 0, 0, 0));
     SHOW(hdrfs_block, hdrfs_read(V, sizeof V, sizeof V, 1, 0, 0));
@@ -377,7 +378,7 @@ static void write_refused(void)
     SHOW(hdrfs_written, hdrfs_append_xattr(buf, sizeof buf, 80, 0, 0, 0, 6, 7, TEXT("\xff"), NULL, 0));
     SHOW(hdrfs_written, hdrfs_append_removed_xattr(buf, sizeof buf, 80, 0, 0, 0, 6, 7, ALL, 256));
     SHOW(hdrfs_written, hdrfs_append_data(buf, sizeof buf, 79, 0, 0, 0, 8, NULL, 0));
-    SHOW(hdrfs_written, hdrfs_append_data(buf, sizeof buf, 80, 0, 2, 8, 8, NULL, 0));
+    SHOW(hdrfs_written, hdrfs_append_data(buf, sizeof buf, 80, 0, 2, 9, 8, NULL, 0));
     SHOW(hdrfs_written, hdrfs_append_data(buf, sizeof buf, 640, 0, 0, 8, 8, NULL, 0));
     SHOW(hdrfs_written, hdrfs_append_data(buf, sizeof buf, TOP, 0, 0, 0, 8, NULL, 0));
     SHOW(hdrfs_written, hdrfs_append_data(NULL, 0, 80, 0, 0, 0, 8, NULL, 0));
@@ -396,6 +397,59 @@ static void write_edges(void)
     SHOW(hdrfs_written, hdrfs_append_data(buf, sizeof buf, sizeof buf - 21, 0, 1, TOP - 1, TOP, NULL, 0));
 }
 
+/* Two data blocks in volume 0, of 24 bytes each. The second is written as if no time stood before it, so that any two times can
+ * be checked. */
+static void check_times(uint64_t first, uint64_t second)
+{
+    mark = hdrfs_write_header(buf, sizeof buf, V + 18, 16, 0, V + 44, 32);
+    mark = hdrfs_append_data(AT_MARK, first, TEXT("1,5"));
+    mark = hdrfs_append_data(buf, sizeof buf, mark.next, 0, 0, 0, second, TEXT("1,5"));
+    printf("times %" PRIu64 " and %" PRIu64 ", ", first, second);
+    SHOW(hdrfs_checked, hdrfs_check(buf, mark.next));
+}
+
+static void check_two_times(void)
+{
+    check_times(7, 7);
+    check_times(7, 6);
+    check_times(0, 0);
+    check_times(TOP, TOP);
+    check_times(TOP, 0);
+}
+
+/* A block may have the last time before it, and not a lower one: then it is refused, and the buffer keeps its bytes. */
+static void write_at_one_time(void)
+{
+    uint8_t before[sizeof buf];
+    WRITE(hdrfs_write_header(buf, sizeof buf, V + 18, 16, 0, V + 44, 32));
+    WRITE(hdrfs_append_data(AT_MARK, 7, TEXT("1,5")));
+    memcpy(before, buf, sizeof buf);
+    SHOW(hdrfs_written, hdrfs_append_data(AT_MARK, 6, TEXT("1,5")));
+    printf("same bytes: %d\n", memcmp(buf, before, sizeof buf) == 0);
+    WRITE(hdrfs_append_data(AT_MARK, 7, TEXT("1,5")));
+    WRITE(hdrfs_write_header(buf, sizeof buf, V + 18, 16, 0, V + 44, 32));
+    WRITE(hdrfs_append_link(AT_MARK, 5, 8, 1, TEXT("a")));
+    WRITE(hdrfs_append_inode(AT_MARK, 8, 5, 16877, 1, 2, 3, 4, 5, 6, 70, NULL, 0));
+    SHOW(hdrfs_checked, hdrfs_check(buf, mark.next));
+}
+
+/* A table has no time and leaves the last one as it was. No last time and a last time of 0 let the same times follow. */
+static void times_behind_a_table(void)
+{
+    WRITE(hdrfs_write_header(buf, sizeof buf, V + 18, 16, 1, V + 44, 32));
+    WRITE(hdrfs_append_table(AT_MARK, 0, NULL, 0));
+    SHOW(hdrfs_written, hdrfs_append_data(AT_MARK, 0, NULL, 0));
+    SHOW(hdrfs_written, hdrfs_append_data(buf, sizeof buf, 93, 0, 1, 0, 0, NULL, 0));
+    SHOW(hdrfs_checked, hdrfs_check(buf, 114));
+    SHOW(hdrfs_block, hdrfs_read(buf, 114, 93, 0, 0, 0));
+    SHOW(hdrfs_block, hdrfs_read(buf, 114, 93, 0, 1, 0));
+    WRITE(hdrfs_append_data(AT_MARK, 7, NULL, 0));
+    SHOW(hdrfs_block, hdrfs_read(buf, 114, 80, 1, 1, 7));
+    SHOW(hdrfs_block, hdrfs_read(buf, 114, 93, 0, 1, 7));
+    SHOW(hdrfs_block, hdrfs_read(buf, 114, 80, 1, 1, 8));
+    SHOW(hdrfs_block, hdrfs_read(buf, 114, 93, 0, 1, 8));
+}
+
 int main(void)
 {
     check();
@@ -408,5 +462,8 @@ int main(void)
     write_all();
     write_refused();
     write_edges();
+    check_two_times();
+    write_at_one_time();
+    times_behind_a_table();
     return 0;
 }
