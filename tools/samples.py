@@ -188,7 +188,8 @@ def read_block(v, offset, due, last):
             return fault, None, None
     if len(set(links)) != len(links):
         return 13, None, None
-    if time is not None and last is not None and time <= last:
+    # an equal time may follow; only a lower one is refused
+    if time is not None and last is not None and time < last:
         return 14, None, None
     return 0, offset + end + 4, time
 
@@ -335,6 +336,11 @@ SAMPLES = [
     ("ranges_touch", header() + inode(1, REGULAR, extent(0, 0, 3) + extent(0, 0, 2, logical=3), 5)),
     ("kept_nothing", header() + inode(1, REGULAR, extent(0, 0, 0, 67, TOP) + extent(0, 0, 3, logical=0), 3)),
     ("same_name_other_parent", header(1) + table([(8, 1, b"a"), (8, 2, b"a")])),
+    ("same_time", header() + data(7, b"1,5") + data(7, b"1,5")),
+    ("same_time_0", header() + data(0, b"1,5") + data(0, b"1,5")),
+    ("same_time_latest", header() + data(TOP, b"1,5") + data(TOP, b"1,5")),
+    ("link_and_inode_at_once", header() + link(5, b"a") + inode(5, FOLDER)),
+    ("time_0_after_table", header(1) + table([]) + data(0, b"")),
     # each number that reading gives, in the order of their list
     ("cut_header", header()[:79]),
     ("nothing", b""),
@@ -372,7 +378,8 @@ SAMPLES = [
     ("folder_size", header() + inode(1, FOLDER, b"", 71)),
     ("ranges_overlap", header() + inode(1, REGULAR, extent(0, 0, 3) + extent(0, 0, 3, logical=2), 5)),
     ("link_twice", header(1) + table([(8, 1, b"a"), (9, 2, b"a"), (9, 1, b"a")])),
-    ("same_time", header() + data(7, b"1,5") + data(7, b"1,5")),
+    ("lower_time", header() + data(7, b"1,5") + data(6, b"1,5")),
+    ("time_0_after_latest", header() + data(TOP, b"1,5") + data(0, b"1,5")),
     ("earlier_time", header(1) + table([]) + data(7, b"1,5") + inode(6, FOLDER)),
 ]
 
