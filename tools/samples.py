@@ -422,12 +422,12 @@ WRITTEN = [("header, ID of 15 bytes", 11), ("header, hash of 33 bytes", 11), ("h
            ("inode of 1,025 extents", 9), ("inode, 56 bytes", 11), ("inode, multiplicity 0", 11), ("inode, ranges overlap", 12),
            ("inode", inode(1, REGULAR, EXTENTS, 14)),
            ("target not text", 10), ("target of another size", 11), ("symbolic link", inode(2, LINK, b"gauge", 75)),
-           ("folder with a byte", 11), ("folder at an earlier time", 14), ("folder at the same time", 14), ("folder", inode(3, FOLDER)),
+           ("folder with a byte", 11), ("folder at a lower time", 14), ("folder", inode(3, FOLDER)),
            ("link, name of 65,536 bytes", 9), ("link", link(4, b"gauge")), ("unlink, name not text", 10), ("unlink", link(5, b"log", 3)),
            ("xattr, name of 256 bytes", 9), ("xattr", xattr(6, b"unit", b"m\xFF")), ("removed xattr", removed(7, b"unit")),
            ("data", data(8, b"1,5")), ("rename, new path not text", 10), ("rename", rename(9, b"gauge", b"p\xC3\xA9gel")),
-           ("data without room", 17), ("data at 79", 8), ("table where none is due", 8), ("data after the last time of all", 14),
-           ("data past the limit", 1)]
+           ("data without room", 17), ("data at 79", 8), ("table where none is due", 8),
+           ("data over the limit at a lower time", 14), ("data over the limit at the same time", 1), ("data past the limit", 1)]
 
 
 def listed(v):

@@ -176,14 +176,9 @@ fn folders(buf: &mut [u8; 659], first: Bookmark) -> Bookmark {
         inode(mark, buf, 3, FOLDER, 70, b"x"),
     );
     mark = onward(
-        b"folder at an earlier time",
+        b"folder at a lower time",
         mark,
         inode(mark, buf, 1, FOLDER, 70, b""),
-    );
-    mark = onward(
-        b"folder at the same time",
-        mark,
-        inode(mark, buf, 2, FOLDER, 70, b""),
     );
     onward(b"folder", mark, inode(mark, buf, 3, FOLDER, 70, b""))
 }
@@ -259,6 +254,7 @@ fn table_not_due(buf: &mut [u8; 659]) {
     );
 }
 
+// The time comes before the limit: a lower one is refused for itself, and at the same one the limit decides.
 fn bookmarks(buf: &mut [u8; 659]) {
     let latest = 18446744073709551615;
     made_up(buf, 79, LastTime::Never, b"data at 79", 1);
@@ -267,7 +263,14 @@ fn bookmarks(buf: &mut [u8; 659]) {
         buf,
         16777196,
         LastTime::At(latest),
-        b"data after the last time of all",
+        b"data over the limit at a lower time",
+        18446744073709551614,
+    );
+    made_up(
+        buf,
+        16777196,
+        LastTime::At(latest),
+        b"data over the limit at the same time",
         latest,
     );
     made_up(
