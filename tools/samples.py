@@ -194,20 +194,33 @@ def read_block(v, offset, due, last):
     return 0, offset + end + 4, time
 
 
+# a bookmark: offset, whether a table is due, and the last time, None where there was none
+
+def first_mark(v):
+    return 80, v[36:44] != bytes(8), None
+
+
+def next_mark(mark, end, time):
+    """After a block nothing is due; a table has no time and leaves the last one as it was."""
+    return end, False, mark[2] if time is None else time
+
+
+def with_last(mark):
+    return f"{mark[0]}, no last time" if mark[2] is None else f"{mark[0]}, last time {mark[2]}"
+
+
 def check(v):
     fault = header_fault(v)
     if fault:
         return f"refused {fault} at 0 after 0 blocks"
-    sequence = int.from_bytes(v[36:44], "little")
-    offset, due, last, blocks = 80, sequence > 0, None, 0
+    mark, blocks = first_mark(v), 0
     while True:
-        fault, end, time = read_block(v, offset, due, last)
+        fault, end, time = read_block(v, *mark)
         if fault:
-            return f"refused {fault} at {offset} after {blocks} blocks"
+            return f"refused {fault} at {mark[0]} after {blocks} blocks"
         if end is None:
-            return f"accepted, volume {sequence}, {blocks} blocks, end {offset}"
-        offset, due, blocks = end, False, blocks + 1
-        last = last if time is None else time
+            return f"accepted, volume {int.from_bytes(v[36:44], 'little')}, {blocks} blocks, end {with_last(mark)}"
+        mark, blocks = next_mark(mark, end, time), blocks + 1
 
 
 # ---- an independent lookup, position by position
@@ -412,7 +425,7 @@ def lookup_rows():
         yield f"fetch {n} at {offset} of volume {number}: {fetch(first, second, number, offset, n)}"
 
 
-# ---- the volume that the program writes: each call with its image, or with the number that refuses it
+# ---- the volume that the program writes: each call with its image, or with the number that refuses it where no image can
 
 EXTENTS = extent(0, 97, 3) + extent(0, 97, 3, 82, 3, 1, 1, 4)
 WRITTEN = [("header, ID of 15 bytes", 11), ("header, hash of 33 bytes", 11), ("header of volume 0 with a hash", 6), ("header in 79 bytes", 17),
@@ -422,7 +435,7 @@ WRITTEN = [("header, ID of 15 bytes", 11), ("header, hash of 33 bytes", 11), ("h
            ("inode of 1,025 extents", 9), ("inode, 56 bytes", 11), ("inode, multiplicity 0", 11), ("inode, ranges overlap", 12),
            ("inode", inode(1, REGULAR, EXTENTS, 14)),
            ("target not text", 10), ("target of another size", 11), ("symbolic link", inode(2, LINK, b"gauge", 75)),
-           ("folder with a byte", 11), ("folder at a lower time", 14), ("folder", inode(3, FOLDER)),
+           ("folder with a byte", 11), ("folder at a lower time", inode(1, FOLDER)), ("folder", inode(3, FOLDER)),
            ("link, name of 65,536 bytes", 9), ("link", link(4, b"gauge")), ("unlink, name not text", 10), ("unlink", link(5, b"log", 3)),
            ("xattr, name of 256 bytes", 9), ("xattr", xattr(6, b"unit", b"m\xFF")), ("removed xattr", removed(7, b"unit")),
            ("data", data(8, b"1,5")), ("rename, new path not text", 10), ("rename", rename(9, b"gauge", b"p\xC3\xA9gel")),
@@ -432,22 +445,33 @@ WRITTEN = [("header, ID of 15 bytes", 11), ("header, hash of 33 bytes", 11), ("h
 
 def listed(v):
     yield "offset id length"
-    offset, due, last, blocks = 80, v[36:44] != bytes(8), None, 0
-    while offset < len(v):
-        _, end, time = read_block(v, offset, due, last)
-        yield f"{offset} {v[offset]} {end - offset}"
-        offset, due, last, blocks = end, False, last if time is None else time, blocks + 1
-    yield f"end {offset} blocks {blocks}"
+    mark, blocks = first_mark(v), 0
+    while mark[0] < len(v):
+        _, end, time = read_block(v, *mark)
+        yield f"{mark[0]} {v[mark[0]]} {end - mark[0]}"
+        mark, blocks = next_mark(mark, end, time), blocks + 1
+    yield f"end {mark[0]} blocks {blocks}"
+
+
+def judged(volume, mark, outcome):
+    """The refusal or 0, and the next bookmark; an image is judged by the reader, behind what is written so far."""
+    if isinstance(outcome, int):
+        return outcome, mark
+    if not volume:
+        return header_fault(outcome), first_mark(outcome)
+    fault, end, time = read_block(volume + outcome, *mark)
+    return fault, next_mark(mark, end, time)
 
 
 def written_rows():
-    volume = b""
+    volume, mark = b"", None
     for call, outcome in WRITTEN:
-        if isinstance(outcome, int):
-            yield f"write {call}: refused {outcome}"
+        fault, after = judged(volume, mark, outcome)
+        if fault:
+            yield f"write {call}: refused {fault}"
         else:
-            volume += outcome
-            yield f"write {call}: next {len(volume)}"
+            volume, mark = volume + outcome, after
+            yield f"write {call}: next {with_last(mark)}"
     assert volume == EIGHT
     yield "written: the bytes of all_kinds.vol"
     yield from listed(EIGHT)

@@ -3,13 +3,24 @@ use printing::load;
 use printing::print_pair;
 use printing::print_word;
 use volume::Accepted;
+use volume::LastTime;
 use volume::Rejected;
 use volume::Verdict;
 
+fn print_last(last: LastTime) {
+    match last {
+        LastTime::Never => print_word(b", no last time"),
+        LastTime::At(time) => print_pair(b", last time ", time),
+    }
+}
+
 fn print_accepted(v: Accepted) {
+    let end = v.end;
+    let last = end.last;
     print_pair(b": accepted, volume ", v.sequence);
     print_pair(b", ", v.blocks);
-    print_pair(b" blocks, end ", v.end.offset as u64);
+    print_pair(b" blocks, end ", end.offset as u64);
+    print_last(last);
     print_word(b"\n");
 }
 

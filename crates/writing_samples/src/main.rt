@@ -14,6 +14,13 @@ const SYMBOLIC_LINK: u16 = 41471;
 
 const FOLDER: u16 = 16877;
 
+fn print_last(last: LastTime) {
+    match last {
+        LastTime::Never => print_word(b", no last time"),
+        LastTime::At(time) => print_pair(b", last time ", time),
+    }
+}
+
 // Prints the answer of a call, and gives the bookmark for the next one: after a refusal, the same again.
 fn onward(call: &[u8], mark: Bookmark, answer: WriteAnswer) -> Bookmark {
     print_word(b"write ");
@@ -21,6 +28,8 @@ fn onward(call: &[u8], mark: Bookmark, answer: WriteAnswer) -> Bookmark {
     match answer {
         WriteAnswer::Next(next) => {
             print_pair(b": next ", next.offset as u64);
+            let last = next.last;
+            print_last(last);
             print_word(b"\n");
             next
         }
