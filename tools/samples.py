@@ -395,6 +395,7 @@ SAMPLES = [
     ("time_0_after_latest", header() + data(TOP, b"1,5") + data(0, b"1,5")),
     ("earlier_time", header(1) + table([]) + data(7, b"1,5") + inode(6, FOLDER)),
 ]
+VOLUMES = dict(SAMPLES)
 
 
 # ---- the lookups that the program makes, in its order
@@ -425,7 +426,7 @@ def lookup_rows():
         yield f"fetch {n} at {offset} of volume {number}: {fetch(first, second, number, offset, n)}"
 
 
-# ---- the volume that the program writes: each call with its image, or with the number that refuses it where no image can
+# ---- the volumes that the program writes: each call with its image, which the reader judges, or with the number that refuses it
 
 EXTENTS = extent(0, 97, 3) + extent(0, 97, 3, 82, 3, 1, 1, 4)
 WRITTEN = [("header, ID of 15 bytes", 11), ("header, hash of 33 bytes", 11), ("header of volume 0 with a hash", 6), ("header in 79 bytes", 17),
@@ -441,6 +442,10 @@ WRITTEN = [("header, ID of 15 bytes", 11), ("header, hash of 33 bytes", 11), ("h
            ("data", data(8, b"1,5")), ("rename, new path not text", 10), ("rename", rename(9, b"gauge", b"p\xC3\xA9gel")),
            ("data without room", 17), ("data at 79", 8), ("table where none is due", 8),
            ("data over the limit at a lower time", 14), ("data over the limit at the same time", 1), ("data past the limit", 1)]
+
+# the last of these is made at the bookmark of the one before it, so its image would make lower_time.vol
+TWICE = [("header", header()), ("data", data(7, b"1,5")), ("data at the same time", data(7, b"1,5")),
+         ("data in its place at a lower time", read_block(VOLUMES["lower_time"], 104, False, 7)[0])]
 
 
 def listed(v):
@@ -463,22 +468,20 @@ def judged(volume, mark, outcome):
     return fault, next_mark(mark, end, time)
 
 
-def written_rows():
+def written_rows(calls, name):
     volume, mark = b"", None
-    for call, outcome in WRITTEN:
+    for call, outcome in calls:
         fault, after = judged(volume, mark, outcome)
         if fault:
             yield f"write {call}: refused {fault}"
         else:
             volume, mark = volume + outcome, after
             yield f"write {call}: next {with_last(mark)}"
-    assert volume == EIGHT
-    yield "written: the bytes of all_kinds.vol"
-    yield from listed(EIGHT)
+    assert volume == VOLUMES[name]
+    yield f"written: the bytes of {name}.vol"
 
 
 CRATES = pathlib.Path("crates")
-VOLUMES = dict(SAMPLES)
 
 
 def keep(crate, names, lines):
@@ -499,7 +502,8 @@ def main():
     keep("samples", VOLUMES, lines[:first] + [f"{name}.vol: {check(volume)}" for name, volume in SAMPLES])
     (CRATES / "samples/args").write_text("".join(f"{name}.vol\n" for name in VOLUMES))
     keep("lookup_samples", ["gauge", "later", "v", "wrong_magic"], lookup_rows())
-    keep("writing_samples", ["all_kinds"], written_rows())
+    keep("writing_samples", ["all_kinds", "same_time"],
+         [*written_rows(WRITTEN, "all_kinds"), *listed(EIGHT), *written_rows(TWICE, "same_time")])
 
 
 if __name__ == "__main__":

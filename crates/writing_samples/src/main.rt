@@ -1,5 +1,6 @@
 // A volume with a block of every kind, written afresh into a buffer that it fills, with refused calls among the accepted
 // ones. The bytes are then compared with those of all_kinds.vol, which was made from the layouts by other means, and listed.
+// A second volume has two blocks at one time.
 use libc::STDOUT_FILENO;
 use printing::load;
 use printing::print_pair;
@@ -67,10 +68,14 @@ fn no_room() {
     onward(b"header in 79 bytes", nowhere(), a);
 }
 
-fn start(buf: &mut [u8; 659]) -> Bookmark {
+fn header(buf: &mut [u8], sequence: u64, previous: &[u8; 32]) -> Bookmark {
     let id = b"\0\x01\x02\x03\x04\x05\x06\x07\x08\x09\x0A\x0B\x0C\x0D\x0E\x0F";
-    let a = volume::heading::write_header(buf, id, 1, &[9u8; 32]);
+    let a = volume::heading::write_header(buf, id, sequence, previous);
     onward(b"header", nowhere(), a)
+}
+
+fn start(buf: &mut [u8; 659]) -> Bookmark {
+    header(buf, 1, &[9u8; 32])
 }
 
 // The table: what is refused where it is due, and then the table itself.
@@ -292,20 +297,42 @@ fn bookmarks(buf: &mut [u8; 659]) {
 }
 
 // Whether the volume that was written is the one made by other means.
-fn compare(written: &[u8; 659]) {
+fn compare(written: &[u8], name: &[u8]) {
     let mut made = [0u8; 1024];
-    let n = load(b"all_kinds.vol", &mut made);
+    let n = load(name, &mut made);
     if number::same_bytes(written, &made[..n]) {
-        print_word(b"written: the bytes of all_kinds.vol\n");
-        return;
+        print_word(b"written: the bytes of ");
+    } else {
+        print_word(b"written: other bytes than ");
     }
-    print_word(b"written: other bytes than all_kinds.vol\n");
+    print_word(name);
+    print_word(b"\n");
 }
 
-fn list(written: &[u8; 659]) {
+fn compare_and_list(written: &[u8; 659]) {
+    compare(written, b"all_kinds.vol");
     let mut text = [0u8; 125];
     listing::list(written, &mut text);
     io::write_all(STDOUT_FILENO, &text);
+}
+
+// The refused call comes last, at the bookmark where the second block was written: had it changed the buffer, the comparison
+// would show it.
+fn two_at_one_time() {
+    let mut buf = [0u8; 128];
+    let first = header(&mut buf, 0, &[0u8; 32]);
+    let mark = onward(b"data", first, first.append_data(&mut buf, 7, b"1,5"));
+    onward(
+        b"data at the same time",
+        mark,
+        mark.append_data(&mut buf, 7, b"1,5"),
+    );
+    onward(
+        b"data in its place at a lower time",
+        mark,
+        mark.append_data(&mut buf, 6, b"1,5"),
+    );
+    compare(&buf, b"same_time.vol");
 }
 
 fn main() {
@@ -321,6 +348,6 @@ fn main() {
     mark = names(&mut buf, mark);
     last_blocks(&mut buf, mark);
     bookmarks(&mut buf);
-    compare(&buf);
-    list(&buf);
+    compare_and_list(&buf);
+    two_at_one_time();
 }
