@@ -209,18 +209,36 @@ def with_last(mark):
     return f"{mark[0]}, no last time" if mark[2] is None else f"{mark[0]}, last time {mark[2]}"
 
 
+def walk(v, mark):
+    """Each bookmark from this one on, with the refusal or 0, and the one after the block; None at a refusal and at the end."""
+    while mark:
+        fault, end, time = read_block(v, *mark)
+        after = None if end is None else next_mark(mark, end, time)
+        yield mark, fault, after
+        mark = after
+
+
 def check(v):
     fault = header_fault(v)
     if fault:
         return f"refused {fault} at 0 after 0 blocks"
-    mark, blocks = first_mark(v), 0
-    while True:
-        fault, end, time = read_block(v, *mark)
+    for blocks, (mark, fault, after) in enumerate(walk(v, first_mark(v))):
         if fault:
             return f"refused {fault} at {mark[0]} after {blocks} blocks"
-        if end is None:
+        if after is None:
             return f"accepted, volume {int.from_bytes(v[36:44], 'little')}, {blocks} blocks, end {with_last(mark)}"
-        mark, blocks = next_mark(mark, end, time), blocks + 1
+
+
+def listed(v):
+    """The lines of the listing of a volume whose header is sound."""
+    yield "offset id length"
+    for blocks, (mark, fault, after) in enumerate(walk(v, first_mark(v))):
+        if fault:
+            yield f"refused {fault} at {mark[0]}"
+        elif after is None:
+            yield f"end {mark[0]} blocks {blocks}"
+        else:
+            yield f"{mark[0]} {v[mark[0]]} {after[0] - mark[0]}"
 
 
 # ---- an independent lookup, position by position
@@ -398,6 +416,17 @@ SAMPLES = [
 VOLUMES = dict(SAMPLES)
 
 
+LISTED = ["same_time", "lower_time"]
+
+
+def volume_rows():
+    for name, volume in SAMPLES:
+        yield f"{name}.vol: {check(volume)}"
+    for name in LISTED:
+        yield f"{name}.vol, listed:"
+        yield from listed(VOLUMES[name])
+
+
 # ---- the lookups that the program makes, in its order
 
 ONE = struct.pack("<Q", 104)
@@ -448,24 +477,14 @@ TWICE = [("header", header()), ("data", data(7, b"1,5")), ("data at the same tim
          ("data in its place at a lower time", read_block(VOLUMES["lower_time"], 104, False, 7)[0])]
 
 
-def listed(v):
-    yield "offset id length"
-    mark, blocks = first_mark(v), 0
-    while mark[0] < len(v):
-        _, end, time = read_block(v, *mark)
-        yield f"{mark[0]} {v[mark[0]]} {end - mark[0]}"
-        mark, blocks = next_mark(mark, end, time), blocks + 1
-    yield f"end {mark[0]} blocks {blocks}"
-
-
 def judged(volume, mark, outcome):
     """The refusal or 0, and the next bookmark; an image is judged by the reader, behind what is written so far."""
     if isinstance(outcome, int):
         return outcome, mark
     if not volume:
         return header_fault(outcome), first_mark(outcome)
-    fault, end, time = read_block(volume + outcome, *mark)
-    return fault, next_mark(mark, end, time)
+    _, fault, after = next(walk(volume + outcome, mark))
+    return fault, after
 
 
 def written_rows(calls, name):
@@ -496,10 +515,10 @@ def keep(crate, names, lines):
 
 
 def main():
-    # the lines before those of the volumes are kept: vectors from outside, and the listing
+    # the lines before those of the volumes are kept: vectors from outside, and the listing of a volume that is too long
     lines = (CRATES / "samples/stdout").read_text().splitlines()
     first = next(i for i, line in enumerate(lines) if ".vol: " in line)
-    keep("samples", VOLUMES, lines[:first] + [f"{name}.vol: {check(volume)}" for name, volume in SAMPLES])
+    keep("samples", VOLUMES, [*lines[:first], *volume_rows()])
     (CRATES / "samples/args").write_text("".join(f"{name}.vol\n" for name in VOLUMES))
     keep("lookup_samples", ["gauge", "later", "v", "wrong_magic"], lookup_rows())
     keep("writing_samples", ["all_kinds", "same_time"],

@@ -13,4 +13,5 @@ fn main() {
     texts::cut_and_stray();
     listings::too_long();
     volumes::all();
+    listings::times();
 }
