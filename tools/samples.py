@@ -4,6 +4,7 @@
 The answers come from the small reader below, which is written from the rules alone and shares nothing with the library.
 Run it from the top of the repository after a change to the list of samples; the files it writes are kept in the repository.
 """
+import itertools
 import pathlib
 import struct
 import zlib
@@ -417,6 +418,8 @@ VOLUMES = dict(SAMPLES)
 
 
 LISTED = ["same_time", "lower_time"]
+# bookmarks that are made up: earlier_time.vol has a table at 80 and data at time 7 behind it
+READ_AT = [("earlier_time", (80, True, None)), ("earlier_time", (80, True, 7)), ("earlier_time", (80, True, 8))]
 
 
 def volume_rows():
@@ -425,6 +428,22 @@ def volume_rows():
     for name in LISTED:
         yield f"{name}.vol, listed:"
         yield from listed(VOLUMES[name])
+    for name, mark in READ_AT:
+        yield from read_rows(VOLUMES[name], mark)
+
+
+def with_due(mark):
+    return with_last(mark) + (", table due" if mark[1] else ", no table due")
+
+
+def read_rows(v, first):
+    """Two readings in a row, of a table or of data."""
+    for mark, fault, after in itertools.islice(walk(v, first), 2):
+        if fault:
+            yield f"read at {with_due(mark)}: refused {fault}"
+        else:
+            block = "table" if v[mark[0]] == 8 else f"data at time {after[2]}"
+            yield f"read at {with_due(mark)}: {block}, next {with_due(after)}"
 
 
 # ---- the lookups that the program makes, in its order

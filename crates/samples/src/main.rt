@@ -1,4 +1,5 @@
 // Runs vectors from outside against the library and prints what it answers; the file stdout has what it must print.
+mod bookmarks;
 mod listings;
 mod sums;
 mod texts;
@@ -14,4 +15,5 @@ fn main() {
     listings::too_long();
     volumes::all();
     listings::times();
+    bookmarks::all();
 }

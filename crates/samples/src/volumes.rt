@@ -1,26 +1,17 @@
 // Volumes from the folder data, one for each argument: what the check of the whole volume answers.
+use crate::bookmarks::print_place;
 use printing::load;
 use printing::print_pair;
 use printing::print_word;
 use volume::Accepted;
-use volume::LastTime;
 use volume::Rejected;
 use volume::Verdict;
 
-fn print_last(last: LastTime) {
-    match last {
-        LastTime::Never => print_word(b", no last time"),
-        LastTime::At(time) => print_pair(b", last time ", time),
-    }
-}
-
 fn print_accepted(v: Accepted) {
-    let end = v.end;
-    let last = end.last;
     print_pair(b": accepted, volume ", v.sequence);
     print_pair(b", ", v.blocks);
-    print_pair(b" blocks, end ", end.offset as u64);
-    print_last(last);
+    print_word(b" blocks, end");
+    print_place(v.end);
     print_word(b"\n");
 }
 
