@@ -165,7 +165,8 @@ hdrfs_source hdrfs_fetch(const uint8_t *first, size_t first_len, const uint8_t *
 /* ---- Writing: a header at the beginning of a buffer, and then block by block, each time with the bookmark last handed out.
  * `buf` must not overlap the other slices. Bytes that a call does not write keep their values, and so do all on refusal. */
 
-/* The bookmark after what was written: its offset, whether a table is due, its last time if `timed` is 1. */
+/* The bookmark after what was written: its offset, whether a table is due, its last time if `timed` is 1. The next block may have
+ * that time or a higher one; at a lower time it is refused with 14. */
 typedef struct {
     uint64_t refusal; /* 17: the buffer has too little room */
     uint64_t next;
