@@ -34,7 +34,7 @@ use Rattle.claims.specs.Library.{ours}
 use Rattle.claims.specs.Demand2.{extentOf, TrueLengths, IsHole, IsStored, Demand2For}
 use Rattle.claims.specs.Demand2.{Says, a-hole, a-byte, RunsSay, over, run, RangeClaim}
 use Rattle.claims.specs.Fetching.{Lent, refusal, fetched, HasNumber, Whichever, the-first, the-second, FetchClaim}
-use Rattle.claims.specs.Fetching.{storedAt, stands-where-named, Lends, HandsOut, Fetching}
+use Rattle.claims.specs.Fetching.{storedAnswer, stands-where-named, Lends, HandsOut, Fetching}
 use Rattle.claims.proofs.Demand2.{demand-2-holds}
 
 -- A volume has a number by the format exactly if its header is not at fault, and it is the number read there.
@@ -117,7 +117,7 @@ module _ (first second : Lent) (number offset len : ℕ) where
 
 -- a run of kind 1 says that its positions are stored in a row
 says-stored : {kind number start k : ℕ} {answer : Answer} → Says kind number start k answer → kind ≡ 1
-    → answer ≡ storedAt number (start + k)
+    → answer ≡ storedAnswer number (start + k)
 says-stored a-hole e = absurd (omega arith)
 says-stored a-byte e = refl
 
@@ -125,7 +125,7 @@ module _ (volume : List ℕ) (offset : ℕ) (lengths : List ℕ) where
   -- positions, at least one, whose bytes are stored in a row
   abbrev StoredRun : (start len number place : ℕ) → Type 0
   StoredRun start len number place =
-      (0 < len) × ((k : ℕ) → k < len → positionAnswer volume offset lengths (start + k) ≡ storedAt number (place + k))
+      (0 < len) × ((k : ℕ) → k < len → positionAnswer volume offset lengths (start + k) ≡ storedAnswer number (place + k))
 
   numbers-long : {from to : ℕ} {runs numbers : List ℕ} → RunsSay ours volume offset lengths from to runs numbers
       → length numbers ≡ 5 * length runs
@@ -163,7 +163,7 @@ module _ (volume : List ℕ) (offset : ℕ) (lengths : List ℕ) (volumes : ℕ 
   demand = demand-2-holds volume offset lengths b
 
   -- it lies inside the volume that is named with it
-  inside : (position number place : ℕ) → positionAnswer volume offset lengths position ≡ storedAt number place
+  inside : (position number place : ℕ) → positionAnswer volume offset lengths position ≡ storedAnswer number place
       → place < length (volumes number)
   inside position number place e =
       ⊎-elim
@@ -190,7 +190,7 @@ module _ (volume : List ℕ) (offset : ℕ) (lengths : List ℕ) (volumes : ℕ 
 
   -- positions in a row whose bytes are named in a row: a fetch of them is not refused, and hands out these bytes
   in-a-row : (start len number place : ℕ) (first second : Lent) → 0 < len
-      → ((k : ℕ) → k < len → positionAnswer volume offset lengths (start + k) ≡ storedAt number (place + k))
+      → ((k : ℕ) → k < len → positionAnswer volume offset lengths (start + k) ≡ storedAnswer number (place + k))
       → Lends volumes first second number
       → (refusal first second number place len ≡ 0)
       × (fetched first second number place len .bytes ≡ part (volumes number) place len)
@@ -214,7 +214,7 @@ module _ (volume : List ℕ) (offset : ℕ) (lengths : List ℕ) (volumes : ℕ 
       )
 
   the-byte-of-a-position : (position number place : ℕ) (first second : Lent)
-      → positionAnswer volume offset lengths position ≡ storedAt number place
+      → positionAnswer volume offset lengths position ≡ storedAnswer number place
       → Lends volumes first second number
       → (refusal first second number place 1 ≡ 0)
       × (place < length (volumes number))
@@ -224,8 +224,8 @@ module _ (volume : List ℕ) (offset : ℕ) (lengths : List ℕ) (volumes : ℕ 
       let row = in-a-row position 1 number place first second (omega arith) (one e) lends in
       (row .0, within, row .1 ∙ ap (take 1) (drop-cons (volumes number) place 0 within))
     where
-      one : positionAnswer volume offset lengths position ≡ storedAt number place
-          → (k : ℕ) → k < 1 → positionAnswer volume offset lengths (position + k) ≡ storedAt number (place + k)
+      one : positionAnswer volume offset lengths position ≡ storedAnswer number place
+          → (k : ℕ) → k < 1 → positionAnswer volume offset lengths (position + k) ≡ storedAnswer number (place + k)
       one e zero h = rw (add-zero position, add-zero place) e
       one e (suc k) h = absurd (omega arith)
 

@@ -29,8 +29,8 @@ pub record Lent : Type 0 where
   pub at : Address
 
 -- A part of them.
-abbrev pub partOf : (whole : Lent) (offset len : ℕ) → Lent
-partOf whole offset len = record { bytes = part (whole .bytes) offset len; at = addressIn (whole .at) offset }
+abbrev pub lentPart : (whole : Lent) (offset len : ℕ) → Lent
+lentPart whole offset len = record { bytes = part (whole .bytes) offset len; at = addressIn (whole .at) offset }
 
 -- The number of a fetch's refusal, or 0, and the part that it hands out.
 abbrev pub refusal : (first second : Lent) (number offset len : ℕ) → ℕ
@@ -65,18 +65,18 @@ pub record FetchClaim (first second : Lent) (number offset len : ℕ) : Type 0 w
       ↔ ((taken : Lent) × Whichever first second number taken × (offset + len ≤ length (taken .bytes)))
   -- it then hands out the very part
   pub the-very-part : (taken : Lent) → Whichever first second number taken → offset + len ≤ length (taken .bytes)
-      → fetched first second number offset len ≡ partOf taken offset len
+      → fetched first second number offset len ≡ lentPart taken offset len
   -- a refused fetch hands out an empty part of the first volume
   pub empty-otherwise : (refusal first second number offset len ≡ 0 → ⊥)
-      → fetched first second number offset len ≡ partOf first 0 0
+      → fetched first second number offset len ≡ lentPart first 0 0
 
 -- The answer of a lookup for a byte that is stored at this place of the volume with this number.
-abbrev pub storedAt : (number place : ℕ) → Answer
-storedAt number place = PositionAnswer.Stored (record { volume = number; offset = record { 0 = place } })
+abbrev pub storedAnswer : (number place : ℕ) → Answer
+storedAnswer number place = PositionAnswer.Stored (record { volume = number; offset = record { 0 = place } })
 
 -- The file's byte at a position: the lookup of the position names a volume and a place in it, and there it stands.
 pub data FileByte (volume : List ℕ) (offset : ℕ) (lengths : List ℕ) (volumes : ℕ → List ℕ) (position : ℕ) : (byte : ℕ) → Type 0 where
-  stands-where-named : {number place : ℕ} → positionAnswer volume offset lengths position ≡ storedAt number place
+  stands-where-named : {number place : ℕ} → positionAnswer volume offset lengths position ≡ storedAnswer number place
       → place < length (volumes number)
       → FileByte volume offset lengths volumes position (getD (volumes number) place 0)
 
@@ -93,7 +93,7 @@ pub record HandsOut (volume : List ℕ) (offset : ℕ) (lengths : List ℕ) (vol
 pub record NamedClaim (volume : List ℕ) (offset : ℕ) (lengths : List ℕ) (volumes : ℕ → List ℕ) : Type 0 where
   -- a stored position: the fetch of one byte from there is not refused, and hands out that byte
   pub the-byte-of-a-position : (position number place : ℕ) (first second : Lent)
-      → positionAnswer volume offset lengths position ≡ storedAt number place
+      → positionAnswer volume offset lengths position ≡ storedAnswer number place
       → Lends volumes first second number
       → (refusal first second number place 1 ≡ 0)
       × (place < length (volumes number))
