@@ -22,7 +22,7 @@ use Rattle.volume.specs.declared.ReadAnswer.the-variants as read
 use Rattle.volume.proofs.Steps.{foundAt}
 use Rattle.volume.proofs.OneCall.{Allowed, HandedOut, read-sound, Hands, read-complete, end-sound, end-complete}
 use Rattle.claims.specs.Library.{ours}
-use Rattle.claims.specs.AnyBookmark.{Stands, InARow, HandedClaim, ReadClaim, AnyBookmark}
+use Rattle.claims.specs.AnyBookmark.{Stands, InARow, HandedClaim, AnyBookmark}
 use Rattle.claims.proofs.Appends.{found-there}
 
 -- a table where one is due, said by the bookmark's flag and by the kind

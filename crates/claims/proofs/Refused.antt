@@ -15,8 +15,9 @@ use Rattle.claims.proofs.Reader.{check-stops, Told, told}
 
 refused-as-the-reader : {volume : List ℕ} {rejected : Rejected} → RefusedAt ours volume rejected → Checked volume (verdict.Refused rejected)
 refused-as-the-reader (at-the-header e) = refused-at-the-header e
-refused-as-the-reader (at-a-block {header = header} {blocks = blocks} e stops) =
-    rw (← zero-add (length blocks)) (after-the-header e (check-stops (header .sequence) 0 stops))
+refused-as-the-reader {volume} (at-a-block {header = header} {blocks = blocks} {at = at} {refusal = refusal} e stops) =
+    subst (λ (n : ℕ). Checked volume (verdict.Refused (record { refusal = refusal; offset = at .offset; blocks = n })))
+    (zero-add (length blocks)) (after-the-header e (check-stops (header .sequence) 0 stops))
 
 refused-there : {volume : List ℕ} {answer : Verdict} (rejected : Rejected) → Checked volume answer → answer ≡ verdict.Refused rejected
     → RefusedAt ours volume rejected

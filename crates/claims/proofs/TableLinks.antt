@@ -1,6 +1,6 @@
 -- The links of a table are what is claimed of them: they fill its part, from the first byte to the last. Assumes nothing.
 use Prim.Native.Nat.{ℕ}
-use mathlib.Core.Path.{sym, subst}
+use mathlib.Core.Path.{sym}
 use mathlib.Core.List.{List}
 use native.Mathlib.Omega.{arith}
 use Rattle.format.specs.Blocks.{LinksOf}

@@ -1,26 +1,32 @@
--- Small volumes on which wrong libraries are tried, and that they have a reading. Assumes nothing.
-use Prim.Native.Nat.{ℕ, _^_, _≤_, _<_}
+-- Small volumes on which wrong libraries are tried, that they have a reading, and where appends start. Assumes nothing.
+use Prim.Native.Nat.{ℕ, _+_, _^_, _≤_, _<_}
+use mathlib.Core.Bool.{false}
 use mathlib.Core.Path.{_≡_, refl, sym, ap, _∙_, subst}
 use mathlib.Core.List.{List, [], _∷_, _++_}
 use native.Mathlib.Omega.{arith}
 use lib.ListN.{length, replicate, length-append}
 use Rattle.number.specs.Number.{Bytes, leBytes}
 use Rattle.number.proofs.Digits.{bytes-append}
+use Rattle.number.proofs.Put.{length-put}
 use Rattle.utf8.specs.Grammar.{empty}
 use Rattle.format.specs.Layout.{All, laid, sealed}
 use Rattle.format.specs.Blocks.{TableLink, Block, Data, Table, idOf, linkImage, linkList, body, image, LinksOf, BlockRules}
 use Rattle.format.specs.Headers.{HeaderRules, noHash, headerFields, headerImage}
 use Rattle.format.specs.Readings.{Reading, IsTable, Keeps, images, volumeOf, ReadingOf}
-use Rattle.request.specs.Asking.{Sized}
 use Rattle.volume.specs.Heading.{firstMark}
+use Rattle.volume.specs.Writing.{appendAnswer, appendBuffer}
+use Rattle.volume.specs.declared.LastTime.the-variants.{Never}
 use Rattle.volume.specs.declared.Bookmark.{Bookmark}
 use Rattle.volume.specs.declared.Verdict.{Verdict}
-use Rattle.volume.specs.declared.Verdict.the-variants.{Accepted, Refused}
+use Rattle.volume.specs.declared.Verdict.the-variants as verdict
+use Rattle.volume.specs.declared.WriteAnswer.the-variants.{Next}
 use Rattle.volume.proofs.HeaderImage.{length-header}
+use Rattle.volume.proofs.OneCall.{after}
 use Rattle.claims.specs.Library.{Library, ours}
 use Rattle.claims.specs.Demand3Reading.{ReaderGives}
 use Rattle.claims.specs.Demand3.{VolumeClaim, Start, from-volume, Demand3}
 use Rattle.claims.specs.Samples.{first}
+use Rattle.claims.proofs.Appending.{admitted-appended}
 use Rattle.claims.proofs.Bytes.{all-small, small-bytes, zeros-bytes, volume-bytes}
 use Rattle.claims.proofs.Demand3Reading.{reading-gives, check-answers}
 
@@ -62,6 +68,10 @@ of-bare library claim = of-reading library bare claim first-rules tt (omega (ari
 abbrev pub bareData : (time : ℕ) → Block
 bareData time = Data (record { time = time; payload = [] })
 
+-- a bookmark where no table is due and no time stands before
+abbrev pub untimed : (offset : ℕ) → Bookmark
+untimed offset = record { offset = offset; due = false; last = Never }
+
 pub data-long : (time : ℕ) → length (image (bareData time)) ≡ 21
 unfolding image sealed laid leBytes
 data-long time = refl
@@ -69,39 +79,55 @@ data-long time = refl
 pub data-rules : (time : ℕ) → time < 256 ^ 8 → BlockRules (bareData time)
 data-rules time small = record { fit = (small, (omega arith, tt)); bytes = λ i. omega arith; rules = tt }
 
-pub data-sized : (time : ℕ) → time < 256 ^ 8 → Sized (bareData time)
-data-sized time small = record { fit = (small, (omega arith, tt)); bytes = λ i. omega arith }
+-- it is appended wherever there is room and no last time before it
+pub data-appended : (buffer : List ℕ) (offset time : ℕ) → time < 256 ^ 8 → 80 ≤ offset → offset + 21 ≤ length buffer
+    → offset + 21 ≤ 16777216
+    → (appendAnswer (length buffer) (untimed offset) (bareData time) ≡ Next (after (untimed offset) (bareData time)))
+    × (length (appendBuffer buffer (untimed offset) (bareData time)) ≡ length buffer)
+data-appended buffer offset time small base room limit =
+    let long = data-long time in
+    let there = admitted-appended buffer (untimed offset) (bareData time)
+    (record {
+      allowed = record { place = refl; keeps = data-rules time small; time = tt };
+      base = base;
+      small = omega (arith, long);
+      fits = omega (arith, long);
+    }) in
+    (there .0, rw (there .1) (length-put buffer offset (image (bareData time))))
 
 not-table : (time : ℕ) → IsTable (bareData time) → ⊥
 not-table time e = let z : _≡_ {A = ℕ} 6 8 = ap idOf e in omega arith
 
 -- Two of them, the second not at a lower time.
-abbrev pub two : (time later : ℕ) → Reading
-two time later = record { header = first; blocks = bareData time ∷ bareData later ∷ [] }
+abbrev pub two : (time next : ℕ) → Reading
+two time next = record { header = first; blocks = bareData time ∷ bareData next ∷ [] }
 
-module _ (time later : ℕ) where
-  pub two-keeps : time ≤ later → later < 256 ^ 8 → Keeps (two time later)
+module _ (time next : ℕ) where
+  two-keeps : time ≤ next → next < 256 ^ 8 → Keeps (two time next)
   two-keeps order small =
       record {
         header = first-rules;
-        each = (data-rules time (omega arith), (data-rules later small, tt));
-        table = (not-table time, (not-table later, tt));
+        each = (data-rules time (omega arith), (data-rules next small, tt));
+        table = (not-table time, (not-table next, tt));
         times = (tt, (order, tt));
       }
 
-  pub two-bytes : Bytes (volumeOf (two time later))
-  two-bytes = volume-bytes (two time later) first-rules ((λ i. omega arith), ((λ i. omega arith), tt))
+  bodies : All (λ block. Bytes (body block)) (two time next .blocks)
+  bodies = ((λ i. omega arith), ((λ i. omega arith), tt))
 
-  two-small : length (volumeOf (two time later)) ≤ 16777216
+  pub two-bytes : Bytes (volumeOf (two time next))
+  two-bytes = volume-bytes (two time next) first-rules bodies
+
+  two-small : length (volumeOf (two time next)) ≤ 16777216
   unfolding volumeOf images image headerImage headerFields sealed laid leBytes
   two-small = omega arith
 
   -- what a library that meets the claim hands out of them
-  pub two-given : (library : Library) → Demand3 library → time ≤ later → later < 256 ^ 8
-      → (end : Bookmark) × ReaderGives library (volumeOf (two time later)) (two time later) end
+  pub two-given : (library : Library) → Demand3 library → time ≤ next → next < 256 ^ 8
+      → (end : Bookmark) × ReaderGives library (volumeOf (two time next)) (two time next) end
   two-given library claim order small =
-      claim .volumes (volumeOf (two time later)) two-bytes two-small .reading .reader-gives-the-reading (two time later) .0
-      (whole (two time later) (two-keeps order small))
+      of-reading library (two time next) claim first-rules bodies two-small
+      .reading .reader-gives-the-reading (two time next) .0 (whole (two time next) (two-keeps order small))
 
 -- A table with a link from 1 to 2: in an empty part there is no such link.
 abbrev pub oneLink : List TableLink
@@ -179,5 +205,5 @@ started library claim same =
     (subst (ReaderGives library (volumeOf bare) bare) (sym end) (gives .1))
   where
     endOf : Verdict → Bookmark
-    endOf (Accepted a) = a .end
-    endOf (Refused r) = firstMark 0
+    endOf (verdict.Accepted a) = a .end
+    endOf (verdict.Refused r) = firstMark 0

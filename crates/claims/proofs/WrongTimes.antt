@@ -1,33 +1,31 @@
 -- A reader that refuses a block at the last time gives no reading with two blocks at one time, and a writer that accepts a lower time
 -- leaves blocks that are no reading. Assumes nothing.
-use Prim.Native.Nat.{ℕ, _+_, _≤_}
+use Prim.Native.Nat.{ℕ, _+_}
 use mathlib.Core.Path.{_≡_, refl, sym, subst}
 use mathlib.Core.Bool.{Bool, true, false, cond, false≢true}
 use mathlib.Core.List.{List, [], _∷_}
 use native.Mathlib.Omega.{arith}
 use lib.ListN.{length}
 use Rattle.number.specs.Number.{Bytes}
-use Rattle.number.proofs.Put.{length-put}
 use Rattle.refusal.specs.Refusal.{refusalOf}
 use Rattle.format.specs.Blocks.{Block, image}
 use Rattle.format.specs.Readings.{timeOf}
 use Rattle.block.specs.Shown.{shown}
+use Rattle.request.proofs.Rules.{rules-sized}
 use Rattle.volume.specs.Heading.{firstMark}
 use Rattle.volume.specs.Reading.{lastWith, readAnswer}
-use Rattle.volume.specs.Writing.{appendAnswer, appendBuffer}
+use Rattle.volume.specs.Writing.{appendBuffer}
 use Rattle.volume.specs.declared.LastTime.{LastTime}
 use Rattle.volume.specs.declared.Bookmark.{Bookmark}
 use Rattle.volume.specs.declared.Found.{Found}
 use Rattle.volume.specs.declared.ReadAnswer.{ReadAnswer}
 use Rattle.volume.specs.declared.ReadAnswer.the-variants as read
 use Rattle.volume.specs.declared.WriteAnswer.the-variants as write
-use Rattle.volume.proofs.OneCall.{after}
 use Rattle.claims.specs.Demand3Reading.{Calls, ended, handed}
 use Rattle.claims.specs.Demand3.{Judged, none-left, accepted, appends, Demand3}
-use Rattle.claims.specs.Wrong.{isLast, greaterOnly, refusesSameTime, timeless, acceptsLowerTime}
+use Rattle.claims.specs.Wrong.{isLast, greaterOnly, refusesSameTime, acceptsLowerTime}
 use Rattle.claims.proofs.AnyBookmark.{read-at-any-bookmark}
-use Rattle.claims.proofs.Appending.{admitted-appended}
-use Rattle.claims.proofs.Tried.{bare, bareData, data-long, data-rules, data-sized, two-bytes, two-given, roomy, roomy-long, roomy-bytes, started}
+use Rattle.claims.proofs.Tried.{bare, bareData, data-long, data-rules, data-appended, two-bytes, two-given, roomy, roomy-long, roomy-bytes, started}
 
 -- The reader.
 
@@ -70,30 +68,14 @@ not-both : {room : ℕ} {first second : Bookmark} {blocks : List Block}
     → Judged room bare (bareData 2 ∷ bareData 1 ∷ []) (write.Next first ∷ write.Next second ∷ []) blocks → ⊥
 not-both (accepted first (accepted second none-left)) = let lower = second .keeps .times .1 .0 in omega arith
 
--- it accepts a data block wherever there is room
-module _ (buffer : List ℕ) (mark : Bookmark) (time : ℕ) (due : mark .due ≡ false) (small : time ≤ 2) (base : 80 ≤ mark .offset)
-    (room : mark .offset + 21 ≤ length buffer) (limit : mark .offset + 21 ≤ 16777216) where
-  at-any-time : (appendAnswer (length buffer) (timeless mark) (bareData time) ≡ write.Next (after (timeless mark) (bareData time)))
-      × (length (appendBuffer buffer (timeless mark) (bareData time)) ≡ length buffer)
-  at-any-time =
-      let long = data-long time in
-      let there = admitted-appended buffer (timeless mark) (bareData time)
-      (record {
-        allowed = record { place = due; keeps = data-rules time (omega arith); time = tt };
-        base = base;
-        small = omega (arith, long);
-        fits = omega (arith, long);
-      }) in
-      (there .0, rw (there .1) (length-put buffer (mark .offset) (image (bareData time))))
-
 pub accepts-lower-time : Demand3 acceptsLowerTime → ⊥
 unfolding appends
 accepts-lower-time claim =
     let list = claim .lists-of-appends roomy (firstMark 0) bare (bareData 2 ∷ bareData 1 ∷ []) roomy-bytes
-    (data-sized 2 (omega arith), (data-sized 1 (omega arith), tt)) (started acceptsLowerTime claim refl) in
-    let first = at-any-time roomy (firstMark 0) 2 refl (omega arith) (omega arith) (omega (arith, roomy-long)) (omega arith) in
-    let mark : Bookmark = after (firstMark 0) (bareData 2) in
+    (rules-sized (bareData 2) (data-rules 2 (omega arith)), (rules-sized (bareData 1) (data-rules 1 (omega arith)), tt))
+    (started acceptsLowerTime claim refl) in
+    let first = data-appended roomy 80 2 (omega arith) (omega arith) (omega (arith, roomy-long)) (omega arith) in
     let buffer : List ℕ = appendBuffer roomy (firstMark 0) (bareData 2) in
-    let second = at-any-time buffer mark 1 refl (omega arith) (omega (arith, data-long 2))
+    let second = data-appended buffer (80 + length (image (bareData 2))) 1 (omega arith) (omega arith)
     (omega (arith, data-long 2, first .1, roomy-long)) (omega (arith, data-long 2)) in
     not-both (rw (first .0, second .0) at (list .each-accepted-exactly-if-allowed))

@@ -1,7 +1,7 @@
 -- The rules of one extent as facts: `isSound` tests just these, and with fields that fit they are the format's rules. Assumes nothing.
 use Prim.Native.Nat.{ℕ, _+_, _≤_, _<_}
-use mathlib.Core.Path.{_≡_, refl}
-use mathlib.Core.Bool.{Bool, true, false, not, _||_, and-eq-true-iff}
+use mathlib.Core.Path.{_≡_}
+use mathlib.Core.Bool.{true, false, not, _||_, and-eq-true-iff}
 use mathlib.Core.Logic.{_⊎_, inl, inr, ⊎-elim}
 use mathlib.Mathlib.Data.Bool.Basic.{dichotomy, or-inl, or-inr}
 use mathlib.Core.List.{List}

@@ -33,8 +33,8 @@ values-laid [] (value ∷ values) rest fit = absurd fit
 values-laid (width ∷ widths) [] rest fit = absurd fit
 values-laid (width ∷ widths) (value ∷ values) rest fit =
     let others : List ℕ = laid widths values ++ rest in
-    rw (
-      append-assoc (leBytes width value) (laid widths values) rest,
+    ap (valuesIn (width ∷ widths)) (append-assoc (leBytes width value) (laid widths values) rest)
+    ∙ rw (
       take-at (leBytes width value) others width (length-leBytes width value),
       drop-at (leBytes width value) others width (length-leBytes width value),
       le-leBytes width value (fit .0),

@@ -1,6 +1,9 @@
 -- The header's first fault decides; without one, its fields are handed out.
+use Prim.Native.Nat.{ℕ}
+use mathlib.Core.Path.{ap}
 use borrow.Author.Tests.{eq-eqb, ne-eqb}
-use Rattle.volume.specs.Heading.{headerAnswer}
+use Rattle.volume.specs.Heading.{firstMark, headerAnswer}
+use Rattle.volume.specs.declared.HeaderAnswer.the-variants.{Accepted}
 use borrow.Author.Needs.{needs}
 use Rattle.volume.proofs.heading.read_header.Statement.{statement}
 use Rattle.volume.proofs.heading.read_header.Tie as tie
@@ -23,7 +26,9 @@ first-mark-requires c κs = search needs
 
 returns-2 : tie.Need-returns-2
 unfolding headerAnswer
-returns-2 c = rw (c .first-mark .ensures, ← c .before .before .before .header-fault .ensures, eq-eqb _ _ (c .before .before .if1 .left), ← c .before .read-u64 .ensures)
+returns-2 c =
+    rw (c .first-mark .ensures, ← c .before .before .before .header-fault .ensures, eq-eqb _ _ (c .before .before .if1 .left))
+    (ap (λ (sequence : ℕ). Accepted (record { sequence = sequence; next = firstMark sequence })) (c .before .read-u64 .ensures))
 
 pub read-header-spec : {M : Type 1} → statement M
 read-header-spec =
