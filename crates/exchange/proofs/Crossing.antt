@@ -63,15 +63,16 @@ use Rattle.exchange.specs.inner.Back.{positionBack, runsBack, linkBack, 
 use Rattle.exchange.specs.Crossing.{Crosses, FieldTold, LinksTold, none-left, told, TableTold, Crossing}
 
 pub bookmark-comes-back : (mark : Bookmark)
-    → bookmarkOf (mark .offset) (flagNumber (mark .due)) (timedNumber (mark .last)) (timeNumber (mark .last)) ≡ mark
-bookmark-comes-back mark = go (mark .offset) (mark .due) (mark .last)
+    → bookmarkOf (mark .offset) (flagNumber (mark .due)) (timedNumber (mark .last)) (timeNumber (mark .last)) (mark .number) ≡ mark
+bookmark-comes-back mark = go (mark .offset) (mark .due) (mark .last) (mark .number)
   where
-    go : (offset : ℕ) (due : Bool) (last : LastTime)
-        → bookmarkOf offset (flagNumber due) (timedNumber last) (timeNumber last) ≡ record { offset = offset; due = due; last = last }
-    go offset true Never = refl
-    go offset true (At time) = refl
-    go offset false Never = refl
-    go offset false (At time) = refl
+    go : (offset : ℕ) (due : Bool) (last : LastTime) (number : ℕ)
+        → bookmarkOf offset (flagNumber due) (timedNumber last) (timeNumber last) number
+        ≡ record { offset = offset; due = due; last = last; number = number }
+    go offset true Never number = refl
+    go offset true (At time) number = refl
+    go offset false Never number = refl
+    go offset false (At time) number = refl
 
 -- what crosses whichever way a test goes crosses
 either : {A : Type 0} (around : A → A) (test : Bool) (one other : A)
@@ -106,16 +107,16 @@ fields-told volume = go (header-answers volume)
     go (rejects f) e = absurd (f e)
 
 -- the fields of each kind are among the numbers
-block-comes-back : (block : Block) (mark : Bookmark) → foundBack (foundNumbers block mark) .block ≡ block
+block-comes-back : (block : Block) (number : ℕ) (next : Bookmark) → foundBack (foundNumbers block number next) .block ≡ block
 unfolding foundNumbers shown kindWith blockWith
-block-comes-back (Inode b) mark = refl
-block-comes-back (Link b) mark = refl
-block-comes-back (Unlink b) mark = refl
-block-comes-back (Xattr b) mark = refl
-block-comes-back (RemovedXattr b) mark = refl
-block-comes-back (Data b) mark = refl
-block-comes-back (Rename b) mark = refl
-block-comes-back (Table b) mark = refl
+block-comes-back (Inode b) number next = refl
+block-comes-back (Link b) number next = refl
+block-comes-back (Unlink b) number next = refl
+block-comes-back (Xattr b) number next = refl
+block-comes-back (RemovedXattr b) number next = refl
+block-comes-back (Data b) number next = refl
+block-comes-back (Rename b) number next = refl
+block-comes-back (Table b) number next = refl
 
 read-crosses : (volume : List ℕ) (mark : Bookmark) → Crosses blockNumbers readBack (readAnswer volume mark)
 unfolding readBack blockNumbers foundNumbers
@@ -124,15 +125,15 @@ read-crosses volume mark = go (answers volume mark)
     go : {a : ReadAnswer} → Answers volume mark a → Crosses blockNumbers readBack a
     go (ends p) = refl
     go (finds p f) =
-        ap₂ (λ block next. ReadAnswer.Found (record { block = block; next = next }))
-        (block-comes-back (blockAt volume (mark .offset)) (nextMark volume mark)) (bookmark-comes-back (nextMark volume mark))
+        ap₂ (λ block next. ReadAnswer.Found (record { block = block; number = mark .number; next = next }))
+        (block-comes-back (blockAt volume (mark .offset)) (mark .number) (nextMark volume mark)) (bookmark-comes-back (nextMark volume mark))
     go (refuses p f) = rw (ne-eqb (readFault volume mark) 0 f)
 
 check-crosses : (verdict : Verdict) → EndsWell verdict → Crosses checkNumbers checkBack verdict
 unfolding checkBack checkNumbers
 check-crosses (Verdict.Accepted a) none-due =
-    ap (λ end. Verdict.Accepted (record { sequence = a .sequence; blocks = a .blocks; end = end }))
-    (ap (λ due. bookmarkOf (a .end .offset) (flagNumber due) (timedNumber (a .end .last)) (timeNumber (a .end .last))) (sym none-due)
+    ap (λ end. Verdict.Accepted (record { sequence = a .sequence; end = end }))
+    (ap (λ due. bookmarkOf (a .end .offset) (flagNumber due) (timedNumber (a .end .last)) (timeNumber (a .end .last)) (a .end .number)) (sym none-due)
     ∙ bookmark-comes-back (a .end))
 check-crosses (Verdict.Refused r) fault = rw (ne-eqb (r .refusal .number) 0 fault)
 

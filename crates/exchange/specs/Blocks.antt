@@ -34,16 +34,18 @@ fieldOf block name = valueIn name (layout (kindOf block)) (fields block)
 abbrev pub partWith : (index : ℕ) (parts : List Part) → Part
 partWith index parts = getD parts index (record { offset = 0; len = 0 })
 
--- the numbers of an answer: the bookmark after the block, the block's fields by name, and the places of its parts
-abbrev pub numbersWith : (refusal end id : ℕ) (next : Bookmark) (value : String → ℕ) (parts : List Part) → BlockNumbers
-numbersWith refusal end id next value parts = record {
+-- the numbers of an answer: the block's own, the bookmark after it, its fields by name, and the places of its parts
+abbrev pub numbersWith : (refusal end id number : ℕ) (next : Bookmark) (value : String → ℕ) (parts : List Part) → BlockNumbers
+numbersWith refusal end id number next value parts = record {
   refusal = refusal;
   end = end;
   id = id;
+  number = number;
   next = next .offset;
   due = flagNumber (next .due);
   timed = timedNumber (next .last);
   last = timeNumber (next .last);
+  nextnumber = next .number;
   time = value "time";
   inode = value "inode";
   child = value "child";
@@ -63,11 +65,11 @@ numbersWith refusal end id next value parts = record {
   secondlen = partWith 1 parts .len;
 }
 
--- a block and the bookmark after it
-unfoldable pub foundNumbers : Block → (next : Bookmark) → BlockNumbers
-foundNumbers block next =
-    numbersWith 0 0 (idOf (kindOf (withoutParts block))) next (fieldOf (withoutParts block)) (parts block)
+-- a block, its own number and the bookmark after it
+unfoldable pub foundNumbers : Block → (number : ℕ) (next : Bookmark) → BlockNumbers
+foundNumbers block number next =
+    numbersWith 0 0 (idOf (kindOf (withoutParts block))) number next (fieldOf (withoutParts block)) (parts block)
 
 -- no block: a refusal's number, or 1 for "end", and 0 for the rest
 abbrev pub noBlock : (refusal end : ℕ) → BlockNumbers
-noBlock refusal end = numbersWith refusal end 0 (record { offset = 0; due = false; last = Never }) (λ name. 0) []
+noBlock refusal end = numbersWith refusal end 0 0 (record { offset = 0; due = false; last = Never; number = 0 }) (λ name. 0) []

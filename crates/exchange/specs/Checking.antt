@@ -8,7 +8,7 @@ unfoldable pub checkNumbers : Verdict → CheckNumbers
 checkNumbers (Accepted a) = record {
   refusal = 0;
   sequence = a .sequence;
-  blocks = a .blocks;
+  blocks = a .end .number;
   offset = a .end .offset;
   timed = timedNumber (a .end .last);
   time = timeNumber (a .end .last);

@@ -70,10 +70,10 @@ pub record TableTold (volume : List ℕ) (n : BlockNumbers) (links : List TableL
 
 -- What is claimed of the boundary.
 pub record Crossing : Type 0 where
-  -- a bookmark that goes out as four numbers is the same bookmark when these come back
+  -- a bookmark that goes out as five numbers is the same bookmark when these come back
   pub bookmark :
       (mark : Bookmark)
-      → bookmarkOf (mark .offset) (flagNumber (mark .due)) (timedNumber (mark .last)) (timeNumber (mark .last)) ≡ mark
+      → bookmarkOf (mark .offset) (flagNumber (mark .due)) (timedNumber (mark .last)) (timeNumber (mark .last)) (mark .number) ≡ mark
   -- hdrfs_header, hdrfs_read, hdrfs_check
   pub header : (volume : List ℕ) → Crosses headingNumbers headerBack (headerAnswer volume)
   pub header-parts :

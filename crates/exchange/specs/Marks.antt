@@ -19,7 +19,7 @@ abbrev pub timeNumber : LastTime → ℕ
 timeNumber Never = 0
 timeNumber (At time) = time
 
--- the bookmark that four numbers give; any number but 0 is a yes
-abbrev pub bookmarkOf : (offset due timed time : ℕ) → Bookmark
-bookmarkOf offset due timed time =
-    record { offset = offset; due = not (eqb due 0); last = cond (eqb timed 0) Never (At time) }
+-- the bookmark that five numbers give; in two of them any number but 0 is a yes
+abbrev pub bookmarkOf : (offset due timed time number : ℕ) → Bookmark
+bookmarkOf offset due timed time number =
+    record { offset = offset; due = not (eqb due 0); last = cond (eqb timed 0) Never (At time); number = number }

@@ -28,7 +28,7 @@ headingNumbers (Accepted h) = record {
 headingNumbers (Unsound r) = record { refusal = r .number; sequence = 0; next = 0; due = 0; id = 0; previous = 0 }
 
 unfoldable pub blockNumbers : ReadAnswer → BlockNumbers
-blockNumbers (Found f) = foundNumbers (f .block) (f .next)
+blockNumbers (Found f) = foundNumbers (f .block) (f .number) (f .next)
 blockNumbers End = noBlock 0 1
 blockNumbers (Refused r) = noBlock (r .number) 0
 

@@ -11,5 +11,6 @@ writtenNumbers (Next mark) = record {
   due = flagNumber (mark .due);
   timed = timedNumber (mark .last);
   last = timeNumber (mark .last);
+  number = mark .number;
 }
-writtenNumbers (Refused r) = record { refusal = r .number; next = 0; due = 0; timed = 0; last = 0 }
+writtenNumbers (Refused r) = record { refusal = r .number; next = 0; due = 0; timed = 0; last = 0; number = 0 }

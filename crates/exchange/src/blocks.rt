@@ -20,9 +20,10 @@ ghost use lib.Text.{eqt};
 ghost use Rattle.block.specs.declared.Block.the-variants.{Inode, Link, Unlink, Xattr, RemovedXattr, Data, Rename, Table};
 ghost use Rattle.exchange.specs.Blocks.{numbersWith, foundNumbers, noBlock};
 
-// The numbers that an answer begins with: those that every kind of block has, and 0 for those that only some have.
+// The numbers that an answer begins with: those that every kind of block has, and 0 for those that only some have. The
+// block's own number is stored last, by whoever has read the block.
 fn begun(refusal: u64, end: u64, id: u64, time: u64, next: Bookmark) -> BlockNumbers
-    ensures { λ r. ⌜ r ≡ numbersWith refusal end id next (λ name. cond (eqt name "time") time 0) [] ⌝ }
+    ensures { λ r. ⌜ r ≡ numbersWith refusal end id 0 next (λ name. cond (eqt name "time") time 0) [] ⌝ }
 {
     let last = next.last;
     let due = flag_number(next.due);
@@ -32,10 +33,12 @@ fn begun(refusal: u64, end: u64, id: u64, time: u64, next: Bookmark) -> BlockNum
         refusal,
         end,
         id,
+        number: 0,
         next: next.offset as u64,
         due,
         timed,
         last: past,
+        nextnumber: next.number,
         time,
         inode: 0,
         child: 0,
@@ -64,12 +67,13 @@ pub(crate) fn no_block(refusal: u64, end: u64) -> BlockNumbers
         offset: 0,
         due: false,
         last: LastTime::Never,
+        number: 0,
     };
     begun(refusal, end, 0, 0, none)
 }
 
 fn inode_numbers(block: InodeBlock, next: Bookmark) -> BlockNumbers
-    ensures { λ r. ⌜ r ≡ foundNumbers (Inode block) next ⌝ }
+    ensures { λ r. ⌜ r ≡ foundNumbers (Inode block) 0 next ⌝ }
 {
     let mut numbers = begun(0, 0, 1, block.time, next);
     let rest = block.rest;
@@ -89,7 +93,7 @@ fn inode_numbers(block: InodeBlock, next: Bookmark) -> BlockNumbers
 
 // The numbers of a link, which has ID 2. An unlink has the same with ID 3.
 fn link_numbers(block: LinkBlock, next: Bookmark) -> BlockNumbers
-    ensures { λ r. ⌜ r ≡ foundNumbers (Link block) next ⌝ }
+    ensures { λ r. ⌜ r ≡ foundNumbers (Link block) 0 next ⌝ }
 {
     let mut numbers = begun(0, 0, 2, block.time, next);
     let name = block.name;
@@ -101,7 +105,7 @@ fn link_numbers(block: LinkBlock, next: Bookmark) -> BlockNumbers
 }
 
 fn unlink_numbers(block: LinkBlock, next: Bookmark) -> BlockNumbers
-    ensures { λ r. ⌜ r ≡ foundNumbers (Unlink block) next ⌝ }
+    ensures { λ r. ⌜ r ≡ foundNumbers (Unlink block) 0 next ⌝ }
 {
     let mut numbers = link_numbers(block, next);
     numbers.id = 3;
@@ -109,7 +113,7 @@ fn unlink_numbers(block: LinkBlock, next: Bookmark) -> BlockNumbers
 }
 
 fn xattr_numbers(block: XattrBlock, next: Bookmark) -> BlockNumbers
-    ensures { λ r. ⌜ r ≡ foundNumbers (Xattr block) next ⌝ }
+    ensures { λ r. ⌜ r ≡ foundNumbers (Xattr block) 0 next ⌝ }
 {
     let mut numbers = begun(0, 0, 4, block.time, next);
     let name = block.name;
@@ -123,7 +127,7 @@ fn xattr_numbers(block: XattrBlock, next: Bookmark) -> BlockNumbers
 }
 
 fn removed_xattr_numbers(block: RemovedXattrBlock, next: Bookmark) -> BlockNumbers
-    ensures { λ r. ⌜ r ≡ foundNumbers (RemovedXattr block) next ⌝ }
+    ensures { λ r. ⌜ r ≡ foundNumbers (RemovedXattr block) 0 next ⌝ }
 {
     let mut numbers = begun(0, 0, 5, block.time, next);
     let name = block.name;
@@ -134,7 +138,7 @@ fn removed_xattr_numbers(block: RemovedXattrBlock, next: Bookmark) -> BlockNumbe
 }
 
 fn data_numbers(block: DataBlock, next: Bookmark) -> BlockNumbers
-    ensures { λ r. ⌜ r ≡ foundNumbers (Data block) next ⌝ }
+    ensures { λ r. ⌜ r ≡ foundNumbers (Data block) 0 next ⌝ }
 {
     let mut numbers = begun(0, 0, 6, block.time, next);
     let payload = block.payload;
@@ -144,7 +148,7 @@ fn data_numbers(block: DataBlock, next: Bookmark) -> BlockNumbers
 }
 
 fn rename_numbers(block: RenameBlock, next: Bookmark) -> BlockNumbers
-    ensures { λ r. ⌜ r ≡ foundNumbers (Rename block) next ⌝ }
+    ensures { λ r. ⌜ r ≡ foundNumbers (Rename block) 0 next ⌝ }
 {
     let mut numbers = begun(0, 0, 7, block.time, next);
     let old = block.old;
@@ -157,7 +161,7 @@ fn rename_numbers(block: RenameBlock, next: Bookmark) -> BlockNumbers
 }
 
 fn table_numbers(block: TableBlock, next: Bookmark) -> BlockNumbers
-    ensures { λ r. ⌜ r ≡ foundNumbers (Table block) next ⌝ }
+    ensures { λ r. ⌜ r ≡ foundNumbers (Table block) 0 next ⌝ }
 {
     let mut numbers = begun(0, 0, 8, 0, next);
     let links = block.links;
@@ -167,9 +171,9 @@ fn table_numbers(block: TableBlock, next: Bookmark) -> BlockNumbers
     numbers
 }
 
-// A block and the bookmark after it.
+// A block and the bookmark after it, without the block's own number.
 pub(crate) fn block_numbers(block: Block, next: Bookmark) -> BlockNumbers
-    ensures { λ r. ⌜ r ≡ foundNumbers block next ⌝ }
+    ensures { λ r. ⌜ r ≡ foundNumbers block 0 next ⌝ }
 {
     match block {
         Block::Inode(b) => inode_numbers(b, next),

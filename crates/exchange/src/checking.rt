@@ -20,7 +20,7 @@ pub extern "C" fn hdrfs_check(volume: &[u8]) -> CheckNumbers
             CheckNumbers {
                 refusal: 0,
                 sequence: accepted.sequence,
-                blocks: accepted.blocks,
+                blocks: end.number,
                 offset: end.offset as u64,
                 timed: timed_number(last),
                 time: time_number(last),

@@ -40,10 +40,12 @@ pub struct BlockNumbers {
     pub refusal: u64,
     pub end: u64,
     pub id: u64,
+    pub number: u64,
     pub next: u64,
     pub due: u64,
     pub timed: u64,
     pub last: u64,
+    pub nextnumber: u64,
     pub time: u64,
     pub inode: u64,
     pub child: u64,
@@ -118,4 +120,5 @@ pub struct MarkNumbers {
     pub due: u64,
     pub timed: u64,
     pub last: u64,
+    pub number: u64,
 }

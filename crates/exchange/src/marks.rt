@@ -34,20 +34,22 @@ pub(crate) fn time_number(last: LastTime) -> u64
     }
 }
 
-// The bookmark that four numbers give. Any number but 0 is a yes.
-pub(crate) fn bookmark_of(offset: u64, due: u64, timed: u64, time: u64) -> Bookmark
-    ensures { λ r. ⌜ r ≡ bookmarkOf offset due timed time ⌝ }
+// The bookmark that five numbers give. In `due` and `timed` any number but 0 is a yes.
+pub(crate) fn bookmark_of(offset: u64, due: u64, timed: u64, time: u64, number: u64) -> Bookmark
+    ensures { λ r. ⌜ r ≡ bookmarkOf offset due timed time number ⌝ }
 {
     if timed == 0 {
         return Bookmark {
             offset: offset as usize,
             due: due != 0,
             last: LastTime::Never,
+            number,
         };
     }
     Bookmark {
         offset: offset as usize,
         due: due != 0,
         last: LastTime::At(time),
+        number,
     }
 }

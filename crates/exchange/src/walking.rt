@@ -54,7 +54,7 @@ pub extern "C" fn hdrfs_header(volume: &[u8]) -> HeadingNumbers
     }
 }
 
-// The block at the bookmark that the four numbers give.
+// The block at the bookmark that the five numbers give.
 #[no_mangle]
 pub extern "C" fn hdrfs_read(
     volume: &[u8],
@@ -62,15 +62,18 @@ pub extern "C" fn hdrfs_read(
     due: u64,
     timed: u64,
     time: u64,
+    number: u64,
 ) -> BlockNumbers
-    ensures { λ r. ⌜ r ≡ blockNumbers (readAnswer (now (volume .entry)) (bookmarkOf offset due timed time)) ⌝ }
+    ensures { λ r. ⌜ r ≡ blockNumbers (readAnswer (now (volume .entry)) (bookmarkOf offset due timed time number)) ⌝ }
 {
-    let mark = bookmark_of(offset, due, timed, time);
+    let mark = bookmark_of(offset, due, timed, time, number);
     match mark.read(volume) {
         ReadAnswer::Found(found) => {
             let block = found.block;
             let next = found.next;
-            block_numbers(block, next)
+            let mut numbers = block_numbers(block, next);
+            numbers.number = found.number;
+            numbers
         }
         ReadAnswer::End => no_block(0, 1),
         ReadAnswer::Refused(refusal) => no_block(refusal.number, 0),

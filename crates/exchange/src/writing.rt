@@ -1,6 +1,6 @@
 // Writing a header and appending blocks, as numbers.
 //
-// Each append makes a bookmark of four numbers, which are those that the call before answered, and answers the numbers of
+// Each append makes a bookmark of five numbers, which are those that the call before answered, and answers the numbers of
 // the bookmark after the block. A refusal leaves the buffer as it was.
 use crate::MarkNumbers;
 use crate::marks::bookmark_of;
@@ -29,6 +29,7 @@ fn written_numbers(answer: WriteAnswer) -> MarkNumbers
                 due: flag_number(mark.due),
                 timed: timed_number(last),
                 last: time_number(last),
+                number: mark.number,
             }
         }
         WriteAnswer::Refused(refusal) => MarkNumbers {
@@ -37,6 +38,7 @@ fn written_numbers(answer: WriteAnswer) -> MarkNumbers
             due: 0,
             timed: 0,
             last: 0,
+            number: 0,
         },
     }
 }
@@ -65,6 +67,7 @@ pub extern "C" fn hdrfs_append_inode(
     due: u64,
     timed: u64,
     last: u64,
+    number: u64,
     inode: u64,
     time: u64,
     mode: u16,
@@ -77,12 +80,12 @@ pub extern "C" fn hdrfs_append_inode(
     size: u64,
     rest: &[u8],
 ) -> MarkNumbers
-    ensures answer { λ r. ⌜ r ≡ writtenNumbers (appendAnswer (length (now (buf .entry))) (bookmarkOf offset due timed last)
+    ensures answer { λ r. ⌜ r ≡ writtenNumbers (appendAnswer (length (now (buf .entry))) (bookmarkOf offset due timed last number)
         (Inode (record { inode = inode; time = time; mode = mode; uid = uid; gid = gid; atime = atime; mtime = mtime; ctime = ctime; btime = btime; size = size; rest = now (rest .entry) }))) ⌝ }
-    ensures buffer { λ _. ⌜ now (buf .exit) ≡ appendBuffer (now (buf .entry)) (bookmarkOf offset due timed last)
+    ensures buffer { λ _. ⌜ now (buf .exit) ≡ appendBuffer (now (buf .entry)) (bookmarkOf offset due timed last number)
         (Inode (record { inode = inode; time = time; mode = mode; uid = uid; gid = gid; atime = atime; mtime = mtime; ctime = ctime; btime = btime; size = size; rest = now (rest .entry) })) ⌝ }
 {
-    let mark = bookmark_of(offset, due, timed, last);
+    let mark = bookmark_of(offset, due, timed, last, number);
     written_numbers(mark.append_inode(
         buf,
         inode,
@@ -107,17 +110,18 @@ pub extern "C" fn hdrfs_append_link(
     due: u64,
     timed: u64,
     last: u64,
+    number: u64,
     time: u64,
     child: u64,
     parent: u64,
     name: &[u8],
 ) -> MarkNumbers
-    ensures answer { λ r. ⌜ r ≡ writtenNumbers (appendAnswer (length (now (buf .entry))) (bookmarkOf offset due timed last)
+    ensures answer { λ r. ⌜ r ≡ writtenNumbers (appendAnswer (length (now (buf .entry))) (bookmarkOf offset due timed last number)
         (Link (record { time = time; child = child; parent = parent; name = now (name .entry) }))) ⌝ }
-    ensures buffer { λ _. ⌜ now (buf .exit) ≡ appendBuffer (now (buf .entry)) (bookmarkOf offset due timed last)
+    ensures buffer { λ _. ⌜ now (buf .exit) ≡ appendBuffer (now (buf .entry)) (bookmarkOf offset due timed last number)
         (Link (record { time = time; child = child; parent = parent; name = now (name .entry) })) ⌝ }
 {
-    let mark = bookmark_of(offset, due, timed, last);
+    let mark = bookmark_of(offset, due, timed, last, number);
     written_numbers(mark.append_link(buf, time, child, parent, name))
 }
 
@@ -129,17 +133,18 @@ pub extern "C" fn hdrfs_append_unlink(
     due: u64,
     timed: u64,
     last: u64,
+    number: u64,
     time: u64,
     child: u64,
     parent: u64,
     name: &[u8],
 ) -> MarkNumbers
-    ensures answer { λ r. ⌜ r ≡ writtenNumbers (appendAnswer (length (now (buf .entry))) (bookmarkOf offset due timed last)
+    ensures answer { λ r. ⌜ r ≡ writtenNumbers (appendAnswer (length (now (buf .entry))) (bookmarkOf offset due timed last number)
         (Unlink (record { time = time; child = child; parent = parent; name = now (name .entry) }))) ⌝ }
-    ensures buffer { λ _. ⌜ now (buf .exit) ≡ appendBuffer (now (buf .entry)) (bookmarkOf offset due timed last)
+    ensures buffer { λ _. ⌜ now (buf .exit) ≡ appendBuffer (now (buf .entry)) (bookmarkOf offset due timed last number)
         (Unlink (record { time = time; child = child; parent = parent; name = now (name .entry) })) ⌝ }
 {
-    let mark = bookmark_of(offset, due, timed, last);
+    let mark = bookmark_of(offset, due, timed, last, number);
     written_numbers(mark.append_unlink(buf, time, child, parent, name))
 }
 
@@ -151,17 +156,18 @@ pub extern "C" fn hdrfs_append_xattr(
     due: u64,
     timed: u64,
     last: u64,
+    number: u64,
     time: u64,
     inode: u64,
     name: &[u8],
     value: &[u8],
 ) -> MarkNumbers
-    ensures answer { λ r. ⌜ r ≡ writtenNumbers (appendAnswer (length (now (buf .entry))) (bookmarkOf offset due timed last)
+    ensures answer { λ r. ⌜ r ≡ writtenNumbers (appendAnswer (length (now (buf .entry))) (bookmarkOf offset due timed last number)
         (Xattr (record { time = time; inode = inode; name = now (name .entry); value = now (value .entry) }))) ⌝ }
-    ensures buffer { λ _. ⌜ now (buf .exit) ≡ appendBuffer (now (buf .entry)) (bookmarkOf offset due timed last)
+    ensures buffer { λ _. ⌜ now (buf .exit) ≡ appendBuffer (now (buf .entry)) (bookmarkOf offset due timed last number)
         (Xattr (record { time = time; inode = inode; name = now (name .entry); value = now (value .entry) })) ⌝ }
 {
-    let mark = bookmark_of(offset, due, timed, last);
+    let mark = bookmark_of(offset, due, timed, last, number);
     written_numbers(mark.append_xattr(buf, time, inode, name, value))
 }
 
@@ -173,16 +179,17 @@ pub extern "C" fn hdrfs_append_removed_xattr(
     due: u64,
     timed: u64,
     last: u64,
+    number: u64,
     time: u64,
     inode: u64,
     name: &[u8],
 ) -> MarkNumbers
-    ensures answer { λ r. ⌜ r ≡ writtenNumbers (appendAnswer (length (now (buf .entry))) (bookmarkOf offset due timed last)
+    ensures answer { λ r. ⌜ r ≡ writtenNumbers (appendAnswer (length (now (buf .entry))) (bookmarkOf offset due timed last number)
         (RemovedXattr (record { time = time; inode = inode; name = now (name .entry) }))) ⌝ }
-    ensures buffer { λ _. ⌜ now (buf .exit) ≡ appendBuffer (now (buf .entry)) (bookmarkOf offset due timed last)
+    ensures buffer { λ _. ⌜ now (buf .exit) ≡ appendBuffer (now (buf .entry)) (bookmarkOf offset due timed last number)
         (RemovedXattr (record { time = time; inode = inode; name = now (name .entry) })) ⌝ }
 {
-    let mark = bookmark_of(offset, due, timed, last);
+    let mark = bookmark_of(offset, due, timed, last, number);
     written_numbers(mark.append_removed_xattr(buf, time, inode, name))
 }
 
@@ -194,15 +201,16 @@ pub extern "C" fn hdrfs_append_data(
     due: u64,
     timed: u64,
     last: u64,
+    number: u64,
     time: u64,
     payload: &[u8],
 ) -> MarkNumbers
-    ensures answer { λ r. ⌜ r ≡ writtenNumbers (appendAnswer (length (now (buf .entry))) (bookmarkOf offset due timed last)
+    ensures answer { λ r. ⌜ r ≡ writtenNumbers (appendAnswer (length (now (buf .entry))) (bookmarkOf offset due timed last number)
         (Data (record { time = time; payload = now (payload .entry) }))) ⌝ }
-    ensures buffer { λ _. ⌜ now (buf .exit) ≡ appendBuffer (now (buf .entry)) (bookmarkOf offset due timed last)
+    ensures buffer { λ _. ⌜ now (buf .exit) ≡ appendBuffer (now (buf .entry)) (bookmarkOf offset due timed last number)
         (Data (record { time = time; payload = now (payload .entry) })) ⌝ }
 {
-    let mark = bookmark_of(offset, due, timed, last);
+    let mark = bookmark_of(offset, due, timed, last, number);
     written_numbers(mark.append_data(buf, time, payload))
 }
 
@@ -214,16 +222,17 @@ pub extern "C" fn hdrfs_append_rename(
     due: u64,
     timed: u64,
     last: u64,
+    number: u64,
     time: u64,
     old: &[u8],
     new: &[u8],
 ) -> MarkNumbers
-    ensures answer { λ r. ⌜ r ≡ writtenNumbers (appendAnswer (length (now (buf .entry))) (bookmarkOf offset due timed last)
+    ensures answer { λ r. ⌜ r ≡ writtenNumbers (appendAnswer (length (now (buf .entry))) (bookmarkOf offset due timed last number)
         (Rename (record { time = time; old = now (old .entry); new = now (new .entry) }))) ⌝ }
-    ensures buffer { λ _. ⌜ now (buf .exit) ≡ appendBuffer (now (buf .entry)) (bookmarkOf offset due timed last)
+    ensures buffer { λ _. ⌜ now (buf .exit) ≡ appendBuffer (now (buf .entry)) (bookmarkOf offset due timed last number)
         (Rename (record { time = time; old = now (old .entry); new = now (new .entry) })) ⌝ }
 {
-    let mark = bookmark_of(offset, due, timed, last);
+    let mark = bookmark_of(offset, due, timed, last, number);
     written_numbers(mark.append_rename(buf, time, old, new))
 }
 
@@ -235,14 +244,15 @@ pub extern "C" fn hdrfs_append_table(
     due: u64,
     timed: u64,
     last: u64,
+    number: u64,
     count: u64,
     links: &[u8],
 ) -> MarkNumbers
-    ensures answer { λ r. ⌜ r ≡ writtenNumbers (appendAnswer (length (now (buf .entry))) (bookmarkOf offset due timed last)
+    ensures answer { λ r. ⌜ r ≡ writtenNumbers (appendAnswer (length (now (buf .entry))) (bookmarkOf offset due timed last number)
         (Table (record { count = count; links = now (links .entry) }))) ⌝ }
-    ensures buffer { λ _. ⌜ now (buf .exit) ≡ appendBuffer (now (buf .entry)) (bookmarkOf offset due timed last)
+    ensures buffer { λ _. ⌜ now (buf .exit) ≡ appendBuffer (now (buf .entry)) (bookmarkOf offset due timed last number)
         (Table (record { count = count; links = now (links .entry) })) ⌝ }
 {
-    let mark = bookmark_of(offset, due, timed, last);
+    let mark = bookmark_of(offset, due, timed, last, number);
     written_numbers(mark.append_table(buf, count, links))
 }

@@ -114,31 +114,29 @@ roomAt volume mark = length volume - mark .offset + 23
 module _ (volume : List ℕ) (small : length volume ≤ listLimit) where
   -- the lines from a bookmark on take no more
   abbrev Short : Bookmark → Type 0
-  Short mark =
-      (blocks : ℕ) → mark .offset ≤ length volume → blocks ≤ mark .offset → length (linesFrom volume mark blocks) ≤ roomAt volume mark
+  Short mark = mark .offset ≤ length volume → mark .number ≤ mark .offset → length (linesFrom volume mark) ≤ roomAt volume mark
 
-  line-short : (mark : Bookmark) (blocks : ℕ) → mark .offset ≤ length volume → blocks ≤ mark .offset
+  line-short : (mark : Bookmark) → mark .offset ≤ length volume → mark .number ≤ mark .offset
       → ((found : Found) → readAnswer volume mark ≡ ReadAnswer.Found found → Short (found .next))
-      → {a : ReadAnswer} → Answers volume mark a → length (onRead (listingWay volume) mark blocks (linesFrom volume) a) ≤ roomAt volume mark
+      → {a : ReadAnswer} → Answers volume mark a → length (onRead (listingWay volume) mark (linesFrom volume) a) ≤ roomAt volume mark
   unfolding onRead
-  line-short mark blocks h b later (ends p) =
-      omega (arith, end-line-short (mark .offset) blocks (omega arith) (omega arith))
-  line-short mark blocks h b later (finds p f) =
+  line-short mark h b later (ends p) =
+      omega (arith, end-line-short (mark .offset) (mark .number) (omega arith) (omega arith))
+  line-short mark h b later (finds p f) =
       let next : ℕ = nextMark volume mark .offset in
       let further = sound-further volume mark f in
       let least : 13 ≤ next - mark .offset = omega (arith, fixed-least (kindAt volume (mark .offset))) in
       let line : length (foundLine volume mark (foundAt volume mark)) ≤ next - mark .offset
       = block-line-short _ _ _ (omega arith) (sound-id volume mark f) least (omega arith) in
-      let rest = later (foundAt volume mark) (sym (found-read volume mark p f)) (suc blocks) (further .1) (omega arith) in
+      let rest = later (foundAt volume mark) (sym (found-read volume mark p f)) (further .1) (omega arith) in
       simp length-append (omega (arith, rest))
-  line-short mark blocks h b later (refuses p f) =
+  line-short mark h b later (refuses p f) =
       omega (arith, refused-line-short (readFault volume mark) (mark .offset) (omega (arith, read-fault-most volume mark)) (omega arith))
 
   lines-short : (mark : Bookmark) → Short mark
   lines-short =
       block-after-block volume Short
-      (λ mark later blocks h b.
-      rw (walk-step volume (listingWay volume) mark blocks refl) (line-short mark blocks h b later (answers volume mark)))
+      (λ mark later h b. rw (walk-step volume (listingWay volume) mark refl) (line-short mark h b later (answers volume mark)))
 
 header-fault-most : (volume : List ℕ) → headerFault volume ≤ 6
 unfolding headerFault
@@ -151,7 +149,7 @@ after-heading-short volume l = go (eqb (headerFault volume) 0) refl
     go : (t : Bool) → eqb (headerFault volume) 0 ≡ t → length (afterHeading volume (headerAnswer volume)) ≤ listLimit - 17
     go true e =
         let whole : 80 ≤ length volume = header-length volume (eqb-true _ _ e) in
-        rw e (omega (arith, lines-short volume l (firstMark (sequenceOf volume)) 0 whole (omega arith)))
+        rw e (omega (arith, lines-short volume l (firstMark (sequenceOf volume)) whole (omega arith)))
     go false e = rw e (omega (arith, refused-line-short (headerFault volume) 0 (omega (arith, header-fault-most volume)) (lit< tt)))
 
 -- no text is longer than the longest volume that is listed

@@ -18,7 +18,7 @@ use Rattle.listing.specs.inner.Text.{foundLine, listingWay, linesFrom, a
 
 -- the last line of a verdict
 abbrev pub lastOf : Verdict → List ℕ
-lastOf (Verdict.Accepted a) = endLine (a .end .offset) (a .blocks)
+lastOf (Verdict.Accepted a) = endLine (a .end .offset) (a .end .number)
 lastOf (Verdict.Refused r) = refusedLine (r .refusal .number) (r .offset)
 
 pub record Ends (text last : List ℕ) : Type 0 where
@@ -30,15 +30,15 @@ more-front line {text} {last} e =
     record { front = line ++ e .front; joined = ap (λ (s : List ℕ). line ++ s) (e .joined) ∙ sym (append-assoc line (e .front) last) }
 
 -- the lines from a bookmark on, by what is checked from it on
-lines-end : {volume : List ℕ} {sequence blocks : ℕ} {mark : Bookmark} {answer : Verdict}
-    → CheckedFrom volume sequence mark blocks answer → Ends (linesFrom volume mark blocks) (lastOf answer)
+lines-end : {volume : List ℕ} {sequence : ℕ} {mark : Bookmark} {answer : Verdict}
+    → CheckedFrom volume sequence mark answer → Ends (linesFrom volume mark) (lastOf answer)
 unfolding onRead
-lines-end {volume} {blocks = blocks} {mark = mark} (accepted-at-the-end e) =
-    record { front = []; joined = walk-step volume (listingWay volume) mark blocks e }
-lines-end {volume} {blocks = blocks} {mark = mark} (refused-at-a-block e) =
-    record { front = []; joined = walk-step volume (listingWay volume) mark blocks e }
-lines-end {volume} {blocks = blocks} {mark = mark} (after-a-block {found = found} e later) =
-    rw (walk-step volume (listingWay volume) mark blocks e) (more-front (foundLine volume mark found) (lines-end later))
+lines-end {volume} {mark = mark} (accepted-at-the-end e) =
+    record { front = []; joined = walk-step volume (listingWay volume) mark e }
+lines-end {volume} {mark = mark} (refused-at-a-block e) =
+    record { front = []; joined = walk-step volume (listingWay volume) mark e }
+lines-end {volume} {mark = mark} (after-a-block {found = found} e later) =
+    rw (walk-step volume (listingWay volume) mark e) (more-front (foundLine volume mark found) (lines-end later))
 
 text-ends : {volume : List ℕ} {answer : Verdict} → Checked volume answer → Ends (afterHeading volume (headerAnswer volume)) (lastOf answer)
 unfolding afterHeading

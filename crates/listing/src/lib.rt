@@ -32,11 +32,10 @@ pub enum ListAnswer {
 
 // Writes the lines of the blocks from a bookmark on, and the last line.
 fn put_lines(volume: &[u8], first: Bookmark, out: &mut [u8], at: usize) -> usize
-    requires { ⌜ at + length (linesFrom (now volume) first 0) ≤ listLimit ⌝ }
-    ensures { λ r. ⌜ Wrote (now (out .entry)) at (linesFrom (now (volume .entry)) first 0) (now (out .exit)) r ⌝ }
+    requires { ⌜ at + length (linesFrom (now volume) first) ≤ listLimit ⌝ }
+    ensures { λ r. ⌜ Wrote (now (out .entry)) at (linesFrom (now (volume .entry)) first) (now (out .exit)) r ⌝ }
 {
     let mut mark = first;
-    let mut blocks: u64 = 0;
     let mut place = at;
     loop {
         let offset = mark.offset;
@@ -47,10 +46,9 @@ fn put_lines(volume: &[u8], first: Bookmark, out: &mut [u8], at: usize) -> usize
                 let len = next.offset - offset;
                 place = text::block_line(out, place, offset as u64, id as u64, len as u64);
                 mark = next;
-                blocks += 1;
             }
             ReadAnswer::End => {
-                return text::end_line(out, place, offset as u64, blocks);
+                return text::end_line(out, place, offset as u64, mark.number);
             }
             ReadAnswer::Refused(why) => {
                 return text::refused_line(out, place, why.number, offset as u64);

@@ -1,5 +1,5 @@
 -- A volume has exactly one verdict, and it is the one that is computed. Assumes nothing.
-use Prim.Native.Nat.{ℕ, suc}
+use Prim.Native.Nat.{ℕ}
 use mathlib.Core.Path.{_≡_, refl, sym, ap, _∙_}
 use mathlib.Core.Logic.{_↔_}
 use mathlib.Core.List.{List}
@@ -20,29 +20,27 @@ use Rattle.volume.proofs.Walk.{block-after-block, walk-step}
 module _ (volume : List ℕ) (sequence : ℕ) where
   -- what is computed from a bookmark on is checked from it on
   abbrev Holds : Bookmark → Type 0
-  Holds mark = (blocks : ℕ) → CheckedFrom volume sequence mark blocks (checkFrom volume sequence mark blocks)
+  Holds mark = CheckedFrom volume sequence mark (checkFrom volume sequence mark)
 
   one-reading : (mark : Bookmark) → ((found : Found) → readAnswer volume mark ≡ ReadAnswer.Found found → Holds (found .next))
-      → (blocks : ℕ) (a : ReadAnswer) → readAnswer volume mark ≡ a
-      → CheckedFrom volume sequence mark blocks (onRead (checkWay sequence) mark blocks (λ next later. checkFrom volume sequence next later) a)
+      → (a : ReadAnswer) → readAnswer volume mark ≡ a
+      → CheckedFrom volume sequence mark (onRead (checkWay sequence) mark (λ next. checkFrom volume sequence next) a)
   unfolding onRead
-  one-reading mark later blocks ReadAnswer.End e = accepted-at-the-end e
-  one-reading mark later blocks (ReadAnswer.Found found) e = after-a-block e (later found e (suc blocks))
-  one-reading mark later blocks (ReadAnswer.Refused refusal) e = refused-at-a-block e
+  one-reading mark later ReadAnswer.End e = accepted-at-the-end e
+  one-reading mark later (ReadAnswer.Found found) e = after-a-block e (later found e)
+  one-reading mark later (ReadAnswer.Refused refusal) e = refused-at-a-block e
 
   pub checked-from : (mark : Bookmark) → Holds mark
   checked-from =
       block-after-block volume Holds
-      (λ mark later blocks.
-      rw (walk-step volume (checkWay sequence) mark blocks refl) (one-reading mark later blocks (readAnswer volume mark) refl))
+      (λ mark later. rw (walk-step volume (checkWay sequence) mark refl) (one-reading mark later (readAnswer volume mark) refl))
 
   -- and nothing else is
-  pub only-from : {mark : Bookmark} {blocks : ℕ} {answer : Verdict} → CheckedFrom volume sequence mark blocks answer
-      → answer ≡ checkFrom volume sequence mark blocks
+  pub only-from : {mark : Bookmark} {answer : Verdict} → CheckedFrom volume sequence mark answer → answer ≡ checkFrom volume sequence mark
   unfolding onRead
-  only-from {mark} {blocks} (accepted-at-the-end e) = sym (walk-step volume (checkWay sequence) mark blocks e)
-  only-from {mark} {blocks} (refused-at-a-block e) = sym (walk-step volume (checkWay sequence) mark blocks e)
-  only-from {mark} {blocks} (after-a-block e later) = only-from later ∙ sym (walk-step volume (checkWay sequence) mark blocks e)
+  only-from {mark} (accepted-at-the-end e) = sym (walk-step volume (checkWay sequence) mark e)
+  only-from {mark} (refused-at-a-block e) = sym (walk-step volume (checkWay sequence) mark e)
+  only-from {mark} (after-a-block e later) = only-from later ∙ sym (walk-step volume (checkWay sequence) mark e)
 
 module _ (volume : List ℕ) where
   pub checked : Checked volume (checkAnswer volume)
@@ -50,7 +48,7 @@ module _ (volume : List ℕ) where
   checked = go (headerAnswer volume) refl
     where
       go : (a : HeaderAnswer) → headerAnswer volume ≡ a → Checked volume (afterHeader volume a)
-      go (HeaderAnswer.Accepted header) e = after-the-header e (checked-from volume (header .sequence) (header .next) 0)
+      go (HeaderAnswer.Accepted header) e = after-the-header e (checked-from volume (header .sequence) (header .next))
       go (HeaderAnswer.Refused refusal) e = refused-at-the-header e
 
   only-answer : {answer : Verdict} → Checked volume answer → answer ≡ checkAnswer volume

@@ -9,11 +9,12 @@ use native.Mathlib.Omega.{arith}
 use lib.Dec.{leb, eqb}
 use lib.ListN.{length, drop, length-append, length-drop}
 use borrow.Author.Tests.{leb-true, eqb-true, not-true}
-use borrow.Author.Tests.{le-leb, eq-eqb, ne-eqb}
+use borrow.Author.Tests.{le-leb, lt-leb, eq-eqb, ne-eqb}
 use Rattle.number.specs.Number.{Bytes}
 use Rattle.number.proofs.Parts.{drop-part}
 use Rattle.checks.specs.Checks.{firstFault, clear, miss}
 use Rattle.checks.proofs.Laws.{decided, none-append}
+use Rattle.format.specs.Extents.{top}
 use Rattle.format.specs.Blocks.{Kind, idOf, Block, kindOf, image, BlockRules}
 use Rattle.format.specs.Readings.{timeOf, TimeFollows}
 use Rattle.block.specs.Fields.{idAt, kindWith, kindAt, bodyEnd}
@@ -41,6 +42,8 @@ pub record Allowed (mark : Bookmark) (block : Block) : Type 0 where
   pub place : mark .due ≡ isTable block
   pub keeps : BlockRules block
   pub time : TimeFollows (asOption (mark .last)) (timeOf block)
+  -- it can be counted
+  pub counted : mark .number < top
 
 -- the bookmark after a block
 abbrev pub after : Bookmark → Block → Bookmark
@@ -76,6 +79,7 @@ pub record HandedOut (volume : List ℕ) (mark : Bookmark) (found : Found) : Typ
   pub small : length volume ≤ volumeLimit
   pub base : 80 ≤ mark .offset
   pub allowed : Allowed mark (shown volume (found .block))
+  pub number : found .number ≡ mark .number
   pub next : found .next ≡ after mark (shown volume (found .block))
   pub same : drop (mark .offset) volume ≡ image (shown volume (found .block)) ++ drop (found .next .offset) volume
 
@@ -97,7 +101,9 @@ sound-here volume mark b e =
         place = right-place (mark .due) _ (p .block .place) ∙ table;
         keeps = s .keeps;
         time = rw (← t) (follows (mark .last) _ (p .time));
+        counted = p .counted;
       };
+      number = refl;
       next = ap₂ (λ end time. markAfter mark end time) (s .end) t;
       same = drop-part volume offset (length (image block)) ∙ ap₂ _++_ (s .same) (ap (λ (n : ℕ). drop n volume) (sym (s .end)));
     }
@@ -141,7 +147,7 @@ module _ (volume : List ℕ) (mark : Bookmark) (block : Block) (small : length v
       none-append (blockOrder volume offset (mark .due)) _ (block-numbered volume offset (mark .due))
       (passed-block volume offset (mark .due)
       (record { small = small; base = base; more = more; known = known; place = place; own = own }))
-      (sym (decided (miss later clear)))
+      (sym (decided (miss later (miss (lt-leb _ _ (allowed .counted)) clear))))
 
   pub read-complete : (rest : List ℕ) → drop (mark .offset) volume ≡ image block ++ rest → Hands volume mark block
   unfolding readAnswer

@@ -1,16 +1,17 @@
 -- What a header, a reading, an append and the writing of a header without a fault have passed, by name. Only here are the checks of
 -- their tables counted. Assumes nothing.
-use Prim.Native.Nat.{ℕ, _+_, _≤_}
+use Prim.Native.Nat.{ℕ, _+_, _≤_, _<_}
 use mathlib.Core.Path.{_≡_}
 use mathlib.Core.Bool.{true, false, not, Bool·beq}
 use mathlib.Core.List.{List}
 use lib.ListN.{length}
-use borrow.Author.Tests.{ltb-false, eqb-true, not-false}
+use borrow.Author.Tests.{leb-false, ltb-false, eqb-true, not-false}
 use Rattle.number.specs.Number.{numberAt, part}
 use Rattle.number.specs.inner.Same.{sameBytes}
 use Rattle.checks.specs.Checks.{firstFault}
 use Rattle.checks.proofs.Laws.{passed}
 use Rattle.checks.proofs.Cleared.{both-clear}
+use Rattle.format.specs.Extents.{top}
 use Rattle.format.specs.Blocks.{Block, image}
 use Rattle.format.specs.Headers.{Header, magic}
 use Rattle.format.specs.Readings.{timeOf}
@@ -56,8 +57,9 @@ header-passed volume e =
 pub record ReadPassed (volume : List ℕ) (mark : Bookmark) : Type 0 where
   -- the block's own checks
   pub block : BlockPassed volume (mark .offset) (mark .due)
-  -- 14
+  -- 14, 9
   pub time : mayFollow (mark .last) (timeOfBlock (blockAt volume (mark .offset))) ≡ true
+  pub counted : mark .number < top
 
 pub read-passed : (volume : List ℕ) (mark : Bookmark) → readFault volume mark ≡ 0 → ReadPassed volume mark
 unfolding readFault
@@ -67,12 +69,14 @@ read-passed volume mark e =
     record {
       block = block-passed volume (mark .offset) (mark .due) (parts .0);
       time = not-false _ (passed 0 _ tt (parts .1));
+      counted = leb-false _ _ (passed 1 _ tt (parts .1));
     }
 
 pub record AppendPassed (room : ℕ) (mark : Bookmark) (block : Block) : Type 0 where
-  -- 8, twice
+  -- 8, twice, and 9
   pub base : 80 ≤ mark .offset
   pub place : not (Bool·beq (mark .due) (isTable block)) ≡ false
+  pub counted : mark .number < top
   -- the block's own checks
   pub own : firstFault (requestOrder block) ≡ 0
   -- 14, 1, 17
@@ -90,6 +94,7 @@ append-passed room mark block e =
     record {
       base = ltb-false _ _ (passed 0 place tt (parts .0));
       place = passed 1 place tt (parts .0);
+      counted = leb-false _ _ (passed 2 place tt (parts .0));
       own = others .0;
       time = not-false _ (passed 0 last tt (others .1));
       small = ltb-false _ _ (passed 1 last tt (others .1));

@@ -18,9 +18,9 @@ use Rattle.volume.specs.declared.ReadAnswer.{ReadAnswer}
 use Rattle.volume.specs.declared.ReadAnswer.the-variants.{Found as Handed, End, Refused}
 use Rattle.volume.proofs.Passed.{read-passed}
 
--- the block at a bookmark and the bookmark after it
+-- the block at a bookmark, its number and the bookmark after it
 abbrev pub foundAt : (volume : List ℕ) → Bookmark → Found
-foundAt volume mark = record { block = blockAt volume (mark .offset); next = nextMark volume mark }
+foundAt volume mark = record { block = blockAt volume (mark .offset); number = mark .number; next = nextMark volume mark }
 
 -- the three answers of a reading, each with its reason
 pub data Answers (volume : List ℕ) (mark : Bookmark) : ReadAnswer → Type 0 where

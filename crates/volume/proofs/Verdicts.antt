@@ -43,8 +43,8 @@ header-refusal volume refusal = go (header-answers volume)
     go (accepts f) e z = let clash : _≡_ {A = ℕ} 0 1 = cc in omega arith
     go (rejects f) e z = let same : refusalOf (headerFault volume) ≡ refusal = cc in f (ap (λ r. r .number) same ∙ z)
 
-from-ends-well : {volume : List ℕ} {sequence blocks : ℕ} {mark : Bookmark} {answer : Verdict}
-    → CheckedFrom volume sequence mark blocks answer → EndsWell answer
+from-ends-well : {volume : List ℕ} {sequence : ℕ} {mark : Bookmark} {answer : Verdict}
+    → CheckedFrom volume sequence mark answer → EndsWell answer
 from-ends-well {volume} {mark = mark} (accepted-at-the-end e) = end-sound volume mark e .none-due
 from-ends-well {volume} {mark = mark} (refused-at-a-block {refusal = refusal} e) = read-refusal volume mark refusal e
 from-ends-well (after-a-block e later) = from-ends-well later

@@ -24,36 +24,34 @@ module _ (volume : List ℕ) (P : Bookmark → Type 0)
   pub block-after-block : (mark : Bookmark) → P mark
   block-after-block mark = within (suc (length volume - mark .offset)) mark (omega arith)
 
-module _ {Kept Answer : Type 0} (volume : List ℕ) (way : Way Kept Answer) where
+module _ {Answer : Type 0} (volume : List ℕ) (way : Way Answer) where
   -- what a walk makes of a reading depends on the walk from the next bookmark alone
-  read-same : (mark : Bookmark) (kept : Kept) (onward other : Bookmark → Kept → Answer) (a : ReadAnswer)
+  read-same : (mark : Bookmark) (onward other : Bookmark → Answer) (a : ReadAnswer)
       → ((found : Found) → a ≡ ReadAnswer.Found found → onward (found .next) ≡ other (found .next))
-      → onRead way mark kept onward a ≡ onRead way mark kept other a
+      → onRead way mark onward a ≡ onRead way mark other a
   unfolding onRead
-  read-same mark kept onward other (ReadAnswer.Found found) same = ap (way .atBlock mark found kept) (same found refl)
-  read-same mark kept onward other ReadAnswer.End same = refl
-  read-same mark kept onward other (ReadAnswer.Refused refusal) same = refl
+  read-same mark onward other (ReadAnswer.Found found) same = ap (way .atBlock mark found) (same found refl)
+  read-same mark onward other ReadAnswer.End same = refl
+  read-same mark onward other (ReadAnswer.Refused refusal) same = refl
 
   -- how much fuel there is does not matter, if it is more than the bytes that are left
   walk-same : (m n : ℕ) (mark : Bookmark) → length volume - mark .offset < m → length volume - mark .offset < n
-      → _≡_ {A = Kept → Answer} (λ kept. walk m volume way mark kept) (λ kept. walk n volume way mark kept)
+      → walk m volume way mark ≡ walk n volume way mark
   unfolding walk
   walk-same zero n mark h k = absurd (omega arith)
   walk-same (suc m) zero mark h k = absurd (omega arith)
   walk-same (suc m) (suc n) mark h k =
-      λ i kept.
-      read-same mark kept (λ next later. walk m volume way next later) (λ next later. walk n volume way next later) (readAnswer volume mark)
+      read-same mark (λ next. walk m volume way next) (λ next. walk n volume way next) (readAnswer volume mark)
       (λ found e. let further = read-further volume mark found e in walk-same m n (found .next) (omega arith) (omega arith))
-      i
 
   -- one step of a walk, by what the reading answers
-  pub walk-step : (mark : Bookmark) (kept : Kept) {a : ReadAnswer} → readAnswer volume mark ≡ a
-      → walkFrom volume way mark kept ≡ onRead way mark kept (λ next later. walkFrom volume way next later) a
+  pub walk-step : (mark : Bookmark) {a : ReadAnswer} → readAnswer volume mark ≡ a
+      → walkFrom volume way mark ≡ onRead way mark (λ next. walkFrom volume way next) a
   unfolding walkFrom walk
-  walk-step mark kept e =
-      read-same mark kept (λ next later. walk (length volume) volume way next later)
-      (λ next later. walk (suc (length volume)) volume way next later) (readAnswer volume mark)
+  walk-step mark e =
+      read-same mark (λ next. walk (length volume) volume way next) (λ next. walk (suc (length volume)) volume way next)
+      (readAnswer volume mark)
       (λ found f.
       let further = read-further volume mark found f in
       walk-same (length volume) (suc (length volume)) (found .next) (omega arith) (omega arith))
-      ∙ ap (onRead way mark kept (λ next later. walkFrom volume way next later)) e
+      ∙ ap (onRead way mark (λ next. walkFrom volume way next)) e

@@ -1,6 +1,6 @@
 -- What the eight appends share, over any block: what the fault that `append_fault` answers means, and that a refusal and an
 -- acceptance are the answers that the definitions give. Assumes nothing.
-use Prim.Native.Nat.{ℕ, _+_, _≤_}
+use Prim.Native.Nat.{ℕ, _+_, _≤_, _<_}
 use mathlib.Core.Path.{_≡_, refl, sym, ap, _∙_}
 use mathlib.Core.Bool.{Bool, true, false, not, cond}
 use mathlib.Core.List.{List, _∷_, _++_}
@@ -13,6 +13,7 @@ use Rattle.checks.specs.Checks.{Check, check, firstFault}
 use Rattle.checks.proofs.Laws.{numbered, firstFault-append}
 use Rattle.refusal.specs.Refusal.{refusalOf}
 use Rattle.refusal.specs.declared.Refusal.{Refusal}
+use Rattle.format.specs.Extents.{top}
 use Rattle.format.specs.Blocks.{Block, kindOf, body, image, BlockRules}
 use Rattle.format.specs.Headers.{Header, headerImage}
 use Rattle.format.specs.Readings.{timeOf}
@@ -70,6 +71,10 @@ module _ {buffer : List ℕ} {mark : Bookmark} {block : Block} {len fault : ℕ}
   -- where there is none, the image fits the buffer and the block keeps the rules: each length fits its field
   pub room-left : fault ≡ 0 → mark .offset + (sizeOf (kindOf block) + len) ≤ length buffer
   room-left z = omega (arith, length-image block, t .long, append-passed (length buffer) mark block (sym (t .fault-is) ∙ z) .fits)
+
+  -- and the block can be counted
+  pub counted : fault ≡ 0 → mark .number < top
+  counted z = append-passed (length buffer) mark block (sym (t .fault-is) ∙ z) .counted
 
   pub keeps : fault ≡ 0 → BlockRules block
   keeps z = request-sound block (t .sized) (append-passed (length buffer) mark block (sym (t .fault-is) ∙ z) .own)

@@ -53,9 +53,9 @@ headerOrder volume =
 unfoldable pub headerFault : (volume : List ℕ) → ℕ
 headerFault volume = firstFault (headerOrder volume)
 
--- the bookmark after a header: offset 80, no last time yet, and in every volume but volume 0 a table is due
+-- the bookmark after a header: offset 80, no last time yet, no block before it, and in every volume but volume 0 a table is due
 abbrev pub firstMark : (sequence : ℕ) → Bookmark
-firstMark sequence = record { offset = 80; due = ltb 0 sequence; last = Never }
+firstMark sequence = record { offset = 80; due = ltb 0 sequence; last = Never; number = 0 }
 
 unfoldable pub headerAnswer : (volume : List ℕ) → HeaderAnswer
 headerAnswer volume =

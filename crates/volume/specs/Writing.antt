@@ -14,14 +14,15 @@ use Rattle.format.specs.Readings.{timeOf}
 use Rattle.block.specs.Order.{volumeLimit}
 use Rattle.request.specs.Requests.{requestOrder}
 use Rattle.volume.specs.Heading.{hashWrong, firstMark}
-use Rattle.volume.specs.Reading.{mayFollow, markAfter}
+use Rattle.volume.specs.Reading.{mayFollow, countFull, markAfter}
 use Rattle.volume.specs.declared.Bookmark.{Bookmark}
 use Rattle.volume.specs.declared.WriteAnswer.{WriteAnswer}
 use Rattle.volume.specs.declared.WriteAnswer.the-variants.{Next, Refused}
 
--- the checks of the place: 8 (below 80; a table is due and this is none, or this is one and none is due)
+-- the checks of the place: 8 (below 80; a table is due and this is none, or this is one and none is due), 9 (the bookmark's number)
 abbrev pub placeOrder : Bookmark → (table : Bool) → List Check
-placeOrder mark table = check (ltb (mark .offset) 80) 8 ∷ check (not (Bool·beq (mark .due) table)) 8 ∷ []
+placeOrder mark table =
+    check (ltb (mark .offset) 80) 8 ∷ check (not (Bool·beq (mark .due) table)) 8 ∷ check (countFull mark) 9 ∷ []
 
 -- the checks of time and room: 14, 1, 17
 abbrev pub roomOrder : Bookmark → (time : Option ℕ) (len room : ℕ) → List Check
@@ -31,7 +32,7 @@ roomOrder mark time len room =
     ∷ check (ltb room (mark .offset + len)) 17
     ∷ []
 
--- the checks of an append: 8, 9, 11 (link bytes), 10, 11 (inode), 12, 13, 14, 1, 17
+-- the checks of an append: 8, 9 (the bookmark's number), 9, 11 (link bytes), 10, 11 (inode), 12, 13, 14, 1, 17
 abbrev pub appendOrder : (room : ℕ) → Bookmark → Block → List Check
 appendOrder room mark block =
     placeOrder mark (eqb (idOf (kindOf block)) 8)

@@ -9,18 +9,16 @@ use crate::heading::read_header;
 ghost use mathlib.Core.Path.{_≡_};
 ghost use Rattle.volume.specs.inner.Check.{checkFrom, checkAnswer};
 
-// The check from a bookmark on, with no block passed yet.
+// The check from a bookmark on.
 fn check_from(volume: &[u8], sequence: u64, first: Bookmark) -> Verdict
-    ensures { λ r. ⌜ r ≡ checkFrom (now (volume .entry)) sequence first 0 ⌝ }
+    ensures { λ r. ⌜ r ≡ checkFrom (now (volume .entry)) sequence first ⌝ }
 {
     let mut mark = first;
-    let mut blocks: u64 = 0;
     loop {
         match mark.read(volume) {
             ReadAnswer::End => {
                 return Verdict::Accepted(Accepted {
                     sequence,
-                    blocks,
                     end: mark,
                 });
             }
@@ -28,18 +26,17 @@ fn check_from(volume: &[u8], sequence: u64, first: Bookmark) -> Verdict
                 return Verdict::Refused(Rejected {
                     refusal,
                     offset: mark.offset,
-                    blocks,
+                    blocks: mark.number,
                 });
             }
             ReadAnswer::Found(found) => {
                 mark = found.next;
-                blocks += 1;
             }
         }
     }
 }
 
-// Checks a whole volume: accepted, with its number of blocks and its end bookmark, or refused, and where.
+// Checks a whole volume: accepted, with its end bookmark, or refused, and where.
 pub fn check(volume: &[u8]) -> Verdict
     ensures { λ r. ⌜ r ≡ checkAnswer (now (volume .entry)) ⌝ }
 {

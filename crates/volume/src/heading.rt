@@ -86,6 +86,7 @@ pub(crate) fn first_mark(sequence: u64) -> Bookmark
         offset: HEADER_LEN,
         due: 0 < sequence,
         last: LastTime::Never,
+        number: 0,
     }
 }
 

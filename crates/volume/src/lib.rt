@@ -23,6 +23,8 @@ pub struct Bookmark {
     // Whether a link table is due here.
     pub due: bool,
     pub last: LastTime,
+    // How many blocks stand before it.
+    pub number: u64,
 }
 
 // What a sound header gives.
@@ -36,9 +38,10 @@ pub enum HeaderAnswer {
     Refused(Refusal),
 }
 
-// A block that was read, and the bookmark after it.
+// A block that was read, its own number, and the bookmark after it.
 pub struct Found {
     pub block: Block,
+    pub number: u64,
     pub next: Bookmark,
 }
 
@@ -48,10 +51,10 @@ pub enum ReadAnswer {
     Refused(Refusal),
 }
 
-// A volume that is accepted: the blocks after the header, the table included, and the end bookmark.
+// A volume that is accepted, and its end bookmark, whose number is that of the blocks after the header, the table
+// included.
 pub struct Accepted {
     pub sequence: u64,
-    pub blocks: u64,
     pub end: Bookmark,
 }
 

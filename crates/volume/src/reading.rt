@@ -6,11 +6,18 @@ use crate::ReadAnswer;
 use block::Block;
 use block::limits::HEADER_LEN;
 use block::limits::VOLUME_LIMIT;
+use refusal::OVER_LIMIT;
 use refusal::TIME_LOWER;
 use refusal::refuse;
 ghost use mathlib.Core.Path.{_≡_};
 ghost use Rattle.block.specs.inner.Decoded.{timeOfBlock};
-ghost use Rattle.volume.specs.Reading.{asOption, isEnd, mayFollow, markAfter, readAnswer};
+ghost use Prim.Native.Nat.{_<_};
+ghost use Rattle.checks.specs.Checks.{firstFault};
+ghost use Rattle.format.specs.Extents.{top};
+ghost use Rattle.volume.specs.Reading.{asOption, isEnd, mayFollow, countFull, followOrder, markAfter, readAnswer};
+
+// The most blocks that a bookmark can count.
+const MOST_BLOCKS: u64 = 18446744073709551615;
 
 // Whether the bookmark stands at the end of the volume, with nothing due there.
 fn is_end(volume: &[u8], mark: Bookmark) -> bool
@@ -57,21 +64,46 @@ pub(crate) fn may_follow(last: LastTime, time: LastTime) -> bool
     }
 }
 
+// Whether no block more can be counted after this bookmark.
+pub(crate) fn count_full(mark: Bookmark) -> bool
+    ensures { λ r. ⌜ r ≡ countFull mark ⌝ }
+{
+    MOST_BLOCKS <= mark.number
+}
+
+// The first fault of a block with this time that follows the bookmark, or 0: its time, and then that it cannot be counted.
+fn follow_fault(mark: Bookmark, time: LastTime) -> u64
+    ensures { λ r. ⌜ r ≡ firstFault (followOrder mark (asOption time)) ⌝ }
+{
+    let last = mark.last;
+    if !may_follow(last, time) {
+        return TIME_LOWER;
+    }
+    if count_full(mark) {
+        return OVER_LIMIT;
+    }
+    0
+}
+
 // The bookmark after the block at `mark`, which ends at `end`: the one place where a bookmark is made from another.
 pub(crate) fn mark_after(mark: Bookmark, end: usize, time: LastTime) -> Bookmark
+    requires { ⌜ mark .number < top ⌝ }
     ensures { λ r. ⌜ r ≡ markAfter mark end (asOption time) ⌝ }
 {
     let last = mark.last;
+    let number = mark.number + 1;
     match time {
         LastTime::Never => Bookmark {
             offset: end,
             due: false,
             last,
+            number,
         },
         LastTime::At(_) => Bookmark {
             offset: end,
             due: false,
             last: time,
+            number,
         },
     }
 }
@@ -83,7 +115,7 @@ impl Bookmark {
     {
         let offset = self.offset;
         let due = self.due;
-        let last = self.last;
+        let number = self.number;
         if is_end(volume, self) {
             return ReadAnswer::End;
         }
@@ -94,10 +126,15 @@ impl Bookmark {
         let decoded = block::decode(volume, offset);
         let found = decoded.block;
         let time = time_of(found);
-        if !may_follow(last, time) {
-            return ReadAnswer::Refused(refuse(TIME_LOWER));
+        let late = follow_fault(self, time);
+        if late != 0 {
+            return ReadAnswer::Refused(refuse(late));
         }
         let next = mark_after(self, decoded.end, time);
-        ReadAnswer::Found(Found { block: found, next })
+        ReadAnswer::Found(Found {
+            block: found,
+            number,
+            next,
+        })
     }
 }

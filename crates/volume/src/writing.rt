@@ -5,11 +5,13 @@
 use crate::Bookmark;
 use crate::LastTime;
 use crate::WriteAnswer;
+use crate::reading::count_full;
 use crate::reading::mark_after;
 use crate::reading::may_follow;
 use block::limits::HEADER_LEN;
 use block::limits::VOLUME_LIMIT;
 use refusal::OUT_OF_PLACE;
+use refusal::OVER_LIMIT;
 use refusal::ROOM_TOO_SMALL;
 use refusal::TIME_LOWER;
 use refusal::TOO_LARGE;
@@ -292,7 +294,8 @@ fn append_fault(
     room_fault(mark, time, fixed, body, room)
 }
 
-// The first fault of the place: it lies in the header, or a table is due and this is none, or this is one and none is due.
+// The first fault of the place: it lies in the header, or a table is due and this is none, or this is one and none is due,
+// or no block more can be counted there.
 fn place_fault(mark: Bookmark, table: bool) -> u64
     ensures { λ r. ⌜ r ≡ firstFault (placeOrder mark table) ⌝ }
 {
@@ -301,6 +304,9 @@ fn place_fault(mark: Bookmark, table: bool) -> u64
     }
     if mark.due != table {
         return OUT_OF_PLACE;
+    }
+    if count_full(mark) {
+        return OVER_LIMIT;
     }
     0
 }

@@ -42,11 +42,11 @@ use Rattle.exchange.specs.declared.MarkNumbers.{MarkNumbers}
 abbrev pub refusedOr : {Answer : Type 0} (refusal : ℕ) (refused : Refusal → Answer) (other : Answer) → Answer
 refusedOr refusal refused other = cond (eqb refusal 0) other (refused (refusalOf refusal))
 
--- the header, whose bookmark has no last time
+-- the header, whose bookmark has no last time and no block before it
 unfoldable pub headerBack : HeadingNumbers → HeaderAnswer
 headerBack n =
     refusedOr (n .refusal) HeaderAnswer.Refused
-    (HeaderAnswer.Accepted (record { sequence = n .sequence; next = bookmarkOf (n .next) (n .due) 0 0 }))
+    (HeaderAnswer.Accepted (record { sequence = n .sequence; next = bookmarkOf (n .next) (n .due) 0 0 0 }))
 
 -- the variable parts of a block
 abbrev pub firstBack : BlockNumbers → Part
@@ -85,9 +85,14 @@ blockWith dataBlock n = Data (record { time = n .time; payload = firstBack n })
 blockWith renameBlock n = Rename (record { time = n .time; old = firstBack n; new = secondBack n })
 blockWith linkTable n = Table (record { count = n .count; links = firstBack n })
 
--- the block that was read and the bookmark after it
+-- the block that was read, its own number and the bookmark after it
 abbrev pub foundBack : BlockNumbers → Found
-foundBack n = record { block = blockWith (kindWith (n .id)) n; next = bookmarkOf (n .next) (n .due) (n .timed) (n .last) }
+foundBack n =
+    record {
+      block = blockWith (kindWith (n .id)) n;
+      number = n .number;
+      next = bookmarkOf (n .next) (n .due) (n .timed) (n .last) (n .nextnumber);
+    }
 
 unfoldable pub readBack : BlockNumbers → ReadAnswer
 readBack n =
@@ -98,11 +103,11 @@ unfoldable pub checkBack : CheckNumbers → Verdict
 checkBack n =
     refusedOr (n .refusal)
     (λ refusal. Verdict.Refused (record { refusal = refusal; offset = n .offset; blocks = n .blocks }))
-    (Verdict.Accepted (record { sequence = n .sequence; blocks = n .blocks; end = bookmarkOf (n .offset) 0 (n .timed) (n .time) }))
+    (Verdict.Accepted (record { sequence = n .sequence; end = bookmarkOf (n .offset) 0 (n .timed) (n .time) (n .blocks) }))
 
 unfoldable pub writtenBack : MarkNumbers → WriteAnswer
 writtenBack n =
-    refusedOr (n .refusal) WriteAnswer.Refused (WriteAnswer.Next (bookmarkOf (n .next) (n .due) (n .timed) (n .last)))
+    refusedOr (n .refusal) WriteAnswer.Refused (WriteAnswer.Next (bookmarkOf (n .next) (n .due) (n .timed) (n .last) (n .number)))
 
 -- a position: kind 0 is a hole, 1 a stored byte, and 2 past the end
 unfoldable pub positionBack : PlaceNumbers → PositionAnswer

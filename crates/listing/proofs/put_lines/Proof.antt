@@ -13,10 +13,10 @@ use Rattle.listing.proofs.put_lines.Statement.{statement}
 use Rattle.listing.proofs.put_lines.Tie as tie
 
 abbrev Inv-loop : tie.InvT-loop
-Inv-loop volume out₀ at first blocks₀ place₀ out mark blocks place = Reached volume out₀ at first out mark blocks place
+Inv-loop volume out₀ at first place₀ out mark place = Reached volume out₀ at first out mark place
 
 abbrev μ-loop : tie.MeasureT-loop
-μ-loop volume out₀ at first blocks₀ place₀ out mark blocks place = length volume - mark .offset
+μ-loop volume out₀ at first place₀ out mark place = length volume - mark .offset
 
 loop-holds : tie.Need-loop-holds Inv-loop μ-loop
 loop-holds c =
@@ -50,9 +50,6 @@ cast-block-line c = search needs
 
 block-line-requires : tie.Need-block-line-requires Inv-loop μ-loop
 block-line-requires c κs = rw (c .before .before .read-u8 .ensures) (line-fits (c .before .before .before .before .before .before .before .before .loop .inv) _ (found (c .before .before .before .before .before)))
-
-add-blocks : tie.Need-add-blocks Inv-loop μ-loop
-add-blocks c = omega (arith, c .before .before .before .before .before .before .before .before .before .before .before .loop .inv .few, further (c .before .before .before .before .before .before .before .before))
 
 loop-less : tie.Need-loop-less Inv-loop μ-loop
 loop-less c = omega (arith, further (c .before .before .before .before .before .before .before .before))
@@ -107,7 +104,6 @@ put-lines-spec =
     sub-len
     cast-block-line
     block-line-requires
-    add-blocks
     loop-less
     loop-again
     enum-told

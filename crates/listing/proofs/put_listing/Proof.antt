@@ -36,7 +36,7 @@ unfolding listing
 after volume h e = rw (le-ltb listLimit (length volume) h, e)
 
 sound : (c : tie.After-header)
-    → listing (c .before .before .before .before .before .before .before .before .before .before .before .args .volume .now) ≡ headingLine ++ linesFrom (c .before .before .before .before .before .before .before .before .before .before .before .args .volume .now) (c .header .given .0 .0 .next) 0
+    → listing (c .before .before .before .before .before .before .before .before .before .before .before .args .volume .now) ≡ headingLine ++ linesFrom (c .before .before .before .before .before .before .before .before .before .before .before .args .volume .now) (c .header .given .0 .0 .next)
 unfolding afterHeading
 sound c = after _ (c .before .before .before .if1 .left) (sym (c .before .before .read-header .ensures) ∙ c .header .given .1)
 

@@ -1,6 +1,6 @@
 -- Inner page: the text of a volume's listing, computed.
 -- Joined to IsListing, ListingClaim of claims/Listed by listed-holds.
-use Prim.Native.Nat.{ℕ, suc, _-_}
+use Prim.Native.Nat.{ℕ, _-_}
 use mathlib.Core.Bool.{cond}
 use mathlib.Core.List.{List, _++_}
 use lib.Dec.{ltb}
@@ -18,21 +18,20 @@ use Rattle.listing.specs.Listing.{headingLine, blockLine, endLine, refus
 abbrev pub foundLine : (volume : List ℕ) → Bookmark → Found → List ℕ
 foundLine volume mark found = blockLine (mark .offset) (idAt volume (mark .offset)) (found .next .offset - mark .offset)
 
--- the walk keeps the number of blocks
-abbrev pub listingWay : (volume : List ℕ) → Way ℕ (List ℕ)
+abbrev pub listingWay : (volume : List ℕ) → Way (List ℕ)
 listingWay volume =
     record {
-      atBlock = λ mark found blocks onward. foundLine volume mark found ++ onward (suc blocks);
-      atEnd = λ mark blocks. endLine (mark .offset) blocks;
-      atRefusal = λ mark refusal blocks. refusedLine (refusal .number) (mark .offset);
+      atBlock = λ mark found onward. foundLine volume mark found ++ onward;
+      atEnd = λ mark. endLine (mark .offset) (mark .number);
+      atRefusal = λ mark refusal. refusedLine (refusal .number) (mark .offset);
     }
 
--- the lines from a bookmark on, with so many blocks listed before it
-abbrev pub linesFrom : (volume : List ℕ) → Bookmark → (blocks : ℕ) → List ℕ
-linesFrom volume mark blocks = walkFrom volume (listingWay volume) mark blocks
+-- the lines from a bookmark on
+abbrev pub linesFrom : (volume : List ℕ) → Bookmark → List ℕ
+linesFrom volume mark = walkFrom volume (listingWay volume) mark
 
 unfoldable pub afterHeading : (volume : List ℕ) → HeaderAnswer → List ℕ
-afterHeading volume (HeaderAnswer.Accepted header) = linesFrom volume (header .next) 0
+afterHeading volume (HeaderAnswer.Accepted header) = linesFrom volume (header .next)
 afterHeading volume (HeaderAnswer.Refused refusal) = refusedLine (refusal .number) 0
 
 unfoldable pub listing : (volume : List ℕ) → List ℕ

@@ -1,6 +1,6 @@
 -- Inner page: the whole-volume check, computed.
 -- Joined to Checked of volume/Checking by checked-exactly.
-use Prim.Native.Nat.{ℕ, suc}
+use Prim.Native.Nat.{ℕ}
 use mathlib.Core.List.{List}
 use Rattle.volume.specs.Heading.{headerAnswer}
 use Rattle.volume.specs.declared.Bookmark.{Bookmark}
@@ -10,20 +10,19 @@ use Rattle.volume.specs.declared.Verdict.{Verdict}
 use Rattle.volume.specs.declared.Verdict.the-variants as Verdict
 use Rattle.volume.specs.inner.Walk.{Way, walkFrom}
 
--- the walk keeps the number of blocks
-abbrev pub checkWay : (sequence : ℕ) → Way ℕ Verdict
+abbrev pub checkWay : (sequence : ℕ) → Way Verdict
 checkWay sequence =
     record {
-      atBlock = λ mark found blocks onward. onward (suc blocks);
-      atEnd = λ mark blocks. Verdict.Accepted (record { sequence = sequence; blocks = blocks; end = mark });
-      atRefusal = λ mark refusal blocks. Verdict.Refused (record { refusal = refusal; offset = mark .offset; blocks = blocks });
+      atBlock = λ mark found onward. onward;
+      atEnd = λ mark. Verdict.Accepted (record { sequence = sequence; end = mark });
+      atRefusal = λ mark refusal. Verdict.Refused (record { refusal = refusal; offset = mark .offset; blocks = mark .number });
     }
 
-abbrev pub checkFrom : (volume : List ℕ) (sequence : ℕ) → Bookmark → (blocks : ℕ) → Verdict
-checkFrom volume sequence mark blocks = walkFrom volume (checkWay sequence) mark blocks
+abbrev pub checkFrom : (volume : List ℕ) (sequence : ℕ) → Bookmark → Verdict
+checkFrom volume sequence mark = walkFrom volume (checkWay sequence) mark
 
 unfoldable pub afterHeader : (volume : List ℕ) → HeaderAnswer → Verdict
-afterHeader volume (HeaderAnswer.Accepted header) = checkFrom volume (header .sequence) (header .next) 0
+afterHeader volume (HeaderAnswer.Accepted header) = checkFrom volume (header .sequence) (header .next)
 afterHeader volume (HeaderAnswer.Refused refusal) = Verdict.Refused (record { refusal = refusal; offset = 0; blocks = 0 })
 
 unfoldable pub checkAnswer : (volume : List ℕ) → Verdict

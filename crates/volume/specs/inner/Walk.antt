@@ -11,24 +11,23 @@ use Rattle.volume.specs.declared.Found.{Found}
 use Rattle.volume.specs.declared.ReadAnswer.{ReadAnswer}
 use Rattle.volume.specs.declared.ReadAnswer.the-variants as ReadAnswer
 
--- What a walk makes of each reading: by the bookmark, and by what it has kept from the blocks before. At a block it may go on from the
--- next bookmark, with what it keeps then, and make its answer from the answer of that, or stop.
-pub record Way (Kept Answer : Type 0) : Type 0 where
-  pub atBlock : Bookmark → Found → Kept → (onward : Kept → Answer) → Answer
-  pub atEnd : Bookmark → Kept → Answer
-  pub atRefusal : Bookmark → Refusal → Kept → Answer
+-- What a walk makes of each reading. At a block it may make its answer from the answer of the walk that goes on from the next bookmark,
+-- or stop. A walk that keeps something from block to block has an answer that is a function of it.
+pub record Way (Answer : Type 0) : Type 0 where
+  pub atBlock : Bookmark → Found → (onward : Answer) → Answer
+  pub atEnd : Bookmark → Answer
+  pub atRefusal : Bookmark → Refusal → Answer
 
 -- one reading
-unfoldable pub onRead : {Kept Answer : Type 0} → Way Kept Answer → Bookmark → Kept → (onward : Bookmark → Kept → Answer) → ReadAnswer → Answer
-onRead way mark kept onward (ReadAnswer.Found found) = way .atBlock mark found kept (onward (found .next))
-onRead way mark kept onward ReadAnswer.End = way .atEnd mark kept
-onRead way mark kept onward (ReadAnswer.Refused refusal) = way .atRefusal mark refusal kept
+unfoldable pub onRead : {Answer : Type 0} → Way Answer → Bookmark → (onward : Bookmark → Answer) → ReadAnswer → Answer
+onRead way mark onward (ReadAnswer.Found found) = way .atBlock mark found (onward (found .next))
+onRead way mark onward ReadAnswer.End = way .atEnd mark
+onRead way mark onward (ReadAnswer.Refused refusal) = way .atRefusal mark refusal
 
 -- reading after reading. The fuel counts down and is never used up: each block takes at least one byte
-unfoldable pub walk : {Kept Answer : Type 0} → (fuel : ℕ) (volume : List ℕ) → Way Kept Answer → Bookmark → Kept → Answer
-walk zero volume way mark kept = way .atRefusal mark (refusalOf 0) kept
-walk (suc fuel) volume way mark kept =
-    onRead way mark kept (λ next later. walk fuel volume way next later) (readAnswer volume mark)
+unfoldable pub walk : {Answer : Type 0} → (fuel : ℕ) (volume : List ℕ) → Way Answer → Bookmark → Answer
+walk zero volume way mark = way .atRefusal mark (refusalOf 0)
+walk (suc fuel) volume way mark = onRead way mark (λ next. walk fuel volume way next) (readAnswer volume mark)
 
-unfoldable pub walkFrom : {Kept Answer : Type 0} → (volume : List ℕ) → Way Kept Answer → Bookmark → Kept → Answer
-walkFrom volume way mark kept = walk (suc (length volume)) volume way mark kept
+unfoldable pub walkFrom : {Answer : Type 0} → (volume : List ℕ) → Way Answer → Bookmark → Answer
+walkFrom volume way mark = walk (suc (length volume)) volume way mark

@@ -1,5 +1,6 @@
--- The four numbers are the bookmark, and each answer of the reading becomes the numbers that `blockNumbers` gives it.
+-- The five numbers are the bookmark, and each answer of the reading becomes the numbers that `blockNumbers` gives it.
 use borrow.Author.Needs.{needs}
+use Rattle.exchange.specs.Blocks.{foundNumbers}
 use Rattle.exchange.specs.Walking.{blockNumbers}
 use Rattle.exchange.proofs.walking.hdrfs_read.Statement.{statement}
 use Rattle.exchange.proofs.walking.hdrfs_read.Tie as tie
@@ -29,11 +30,11 @@ no-block-requires-2 : tie.Need-no-block-requires-2
 no-block-requires-2 c κs = search needs
 
 returns : tie.Need-returns
-unfolding blockNumbers
+unfolding blockNumbers foundNumbers
 returns c =
     let f = c .before .before .before in
     let r = f .before .before in
-    rw (← r .before .bookmark-of .ensures, ← r .read .ensures, f .found .given .1) (c .block-numbers .ensures)
+    rw (← r .before .bookmark-of .ensures, ← r .read .ensures, f .found .given .1, c .block-numbers .ensures)
 
 returns-2 : tie.Need-returns-2
 unfolding blockNumbers

@@ -7,7 +7,7 @@ use borrow.Author.Needs.{needs}
 use Rattle.format.specs.Blocks.{Data}
 use Rattle.request.specs.Asking.{Sized}
 use Rattle.checks.specs.Checks.{firstFault}
-use Rattle.volume.proofs.Writers.{Told, told, room-left, refused, accepted}
+use Rattle.volume.proofs.Writers.{Told, told, room-left, counted, refused, accepted}
 use Rattle.volume.proofs.Bookmark.append_data.Statement.{statement}
 use Rattle.volume.proofs.Bookmark.append_data.Tie as tie
 
@@ -45,7 +45,7 @@ add-mark-after-2 : tie.Need-add-mark-after-2
 add-mark-after-2 c = let f = c .before .before .before .before in omega (arith, room-left (here (f .before)) (f .if1 .left))
 
 mark-after-requires : tie.Need-mark-after-requires
-mark-after-requires c κs = search needs
+mark-after-requires c κs = let f = c .before .before .before .before in counted (here (f .before)) (f .if1 .left)
 
 same-length : tie.Need-same-length
 same-length c = search needs

@@ -1,20 +1,19 @@
--- The end comes first, then the checks of the block, then that of the time; without a fault, the block and the next bookmark.
+-- The end comes first, then the checks of the block, then those of what it follows; without a fault, the block and the next bookmark.
 use mathlib.Core.Path.{_≡_, sym, ap, ap₂, _∙_}
-use mathlib.Core.Bool.{Bool, true, false, not, cond}
 use mathlib.Core.Option.{Option}
 use mathlib.Core.List.{List}
 use Prim.Native.Nat.{ℕ}
 use Rattle.block.specs.inner.Decoded.{blockAt, decodedAt, timeOfBlock}
 use Rattle.block.specs.declared.Block.{Block}
 use Rattle.block.specs.declared.Decoded.{Decoded}
-use Rattle.volume.specs.Reading.{asOption, mayFollow, markAfter}
+use Rattle.volume.specs.Reading.{asOption, followOrder, markAfter, readFault}
 use Rattle.volume.specs.declared.Bookmark.{Bookmark}
 use Rattle.volume.specs.declared.LastTime.{LastTime}
 use Rattle.volume.specs.declared.Found.{Found}
 use Rattle.volume.specs.declared.ReadAnswer.the-variants.{Found as Answer}
-use native.Mathlib.Nat.{suc-ne-zero}
-use borrow.Author.Tests.{not-true, not-false}
-use Rattle.volume.proofs.Whole.{block-decides, time-decides}
+use Rattle.checks.specs.Checks.{firstFault}
+use Rattle.volume.proofs.Passed.{read-passed}
+use Rattle.volume.proofs.Whole.{block-decides, bookmark-decides}
 use Rattle.block.proofs.Passed.{block-passed}
 use Rattle.volume.proofs.Steps.{foundAt, end-read, refusal-read, found-read}
 use borrow.Author.Needs.{needs}
@@ -50,8 +49,8 @@ decode-requires c κs =
 time-of-requires : tie.Need-time-of-requires
 time-of-requires c κs = search needs
 
-may-follow-requires : tie.Need-may-follow-requires
-may-follow-requires c κs = search needs
+follow-fault-requires : tie.Need-follow-fault-requires
+follow-fault-requires c κs = search needs
 
 refuse-requires-2 : tie.Need-refuse-requires-2
 refuse-requires-2 c κs = search needs
@@ -63,43 +62,49 @@ time-at volume offset decoded time e f = f ∙ ap (λ (d : Decoded). timeOfBlock
 
 found-at : (volume : List ℕ) (mark next : Bookmark) (decoded : Decoded) (time : LastTime) → decoded ≡ decodedAt volume (mark .offset)
     → asOption time ≡ timeOfBlock (decoded .block) → next ≡ markAfter mark (decoded .end) (asOption time)
-    → _≡_ {A = Found} (record { block = decoded .block; next = next }) (foundAt volume mark)
+    → _≡_ {A = Found} (record { block = decoded .block; number = mark .number; next = next }) (foundAt volume mark)
 found-at volume mark next decoded time e f g =
-    ap₂ (λ (b : Block) (n : Bookmark). record { block = b; next = n }) (ap (λ (d : Decoded). d .block) e)
+    ap₂ (λ (b : Block) (n : Bookmark). record { block = b; number = mark .number; next = n }) (ap (λ (d : Decoded). d .block) e)
     (g ∙ ap₂ (λ (x : ℕ) (t : Option ℕ). markAfter mark x t) (ap (λ (d : Decoded). d .end) e) (time-at volume (mark .offset) decoded time e f))
+
+-- the first fault of the reading, once the block itself has none
+late-is : (c : tie.After-follow-fault) → let b = c .before .before .before .before in
+    let a = b .before .before .before .before .args in
+    readFault (a .volume .now) (a .self) ≡ c .follow-fault .result
+late-is c =
+    let t = c .before in
+    let d = t .before in
+    let b = d .before .before in
+    let a = b .before .before .before .before .args in
+    bookmark-decides (a .volume .now) (a .self) (b .block-fault .result) (b .block-fault .ensures) (c .follow-fault .result) (d .before .if2 .left)
+    (c .follow-fault .ensures
+    ∙ ap (λ (time : Option ℕ). firstFault (followOrder (a .self) time))
+    (time-at (a .volume .now) (a .self .offset) (d .decode .result) (t .time-of .result) (d .decode .ensures) (t .time-of .ensures)))
 
 returns-3 : tie.Need-returns-3
 returns-3 c =
     let m = c .before .before in
-    let t = m .before in
-    let d = t .before in
-    let b = d .before .before in
-    let i = b .before in
+    let i = m .before .before .before .before .before in
     let a = i .before .before .before .args in
-    let f : m .may-follow .result ≡ false = not-true _ (c .before .if3 .taken) in
     rw (c .refuse2 .ensures)
-    (refusal-read (a .volume .now) (a .self) 14 (sym (i .before .is-end .ensures) ∙ i .if1 .left)
-    (time-decides (a .volume .now) (a .self) (b .block-fault .result) (b .block-fault .ensures) (m .may-follow .result) (d .before .if2 .left)
-    (m .may-follow .ensures ∙ ap (mayFollow (a .self .last)) (time-at (a .volume .now) (a .self .offset) (d .decode .result) (t .time-of .result) (d .decode .ensures) (t .time-of .ensures)))
-    ∙ ap (λ (r : Bool). cond (not r) 14 0) f) (suc-ne-zero 13))
+    (refusal-read (a .volume .now) (a .self) (m .follow-fault .result) (sym (i .before .is-end .ensures) ∙ i .if1 .left) (late-is m)
+    (c .before .if3 .taken))
 
 mark-after-requires : tie.Need-mark-after-requires
-mark-after-requires c κs = search needs
+mark-after-requires c κs =
+    let m = c .before in
+    let a = m .before .before .before .before .before .before .before .before .args in
+    read-passed (a .volume .now) (a .self) (late-is m ∙ c .if3 .left) .counted
 
 returns-4 : tie.Need-returns-4
 returns-4 c =
     let m = c .before .before in
     let t = m .before in
     let d = t .before in
-    let b = d .before .before in
-    let i = b .before in
+    let i = d .before .before .before in
     let a = i .before .before .before .args in
-    let f : m .may-follow .result ≡ true = not-false _ (c .before .if3 .left) in
     ap Answer (found-at (a .volume .now) (a .self) (c .mark-after .result) (d .decode .result) (t .time-of .result) (d .decode .ensures) (t .time-of .ensures) (c .mark-after .ensures))
-    ∙ found-read (a .volume .now) (a .self) (sym (i .before .is-end .ensures) ∙ i .if1 .left)
-    (time-decides (a .volume .now) (a .self) (b .block-fault .result) (b .block-fault .ensures) (m .may-follow .result) (d .before .if2 .left)
-    (m .may-follow .ensures ∙ ap (mayFollow (a .self .last)) (time-at (a .volume .now) (a .self .offset) (d .decode .result) (t .time-of .result) (d .decode .ensures) (t .time-of .ensures)))
-    ∙ ap (λ (r : Bool). cond (not r) 14 0) f)
+    ∙ found-read (a .volume .now) (a .self) (sym (i .before .is-end .ensures) ∙ i .if1 .left) (late-is m ∙ c .before .if3 .left)
 
 pub read-spec : {M : Type 1} → statement M
 read-spec =
@@ -112,7 +117,7 @@ read-spec =
     returns-2
     decode-requires
     time-of-requires
-    may-follow-requires
+    follow-fault-requires
     refuse-requires-2
     returns-3
     mark-after-requires

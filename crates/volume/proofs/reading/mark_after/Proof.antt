@@ -1,7 +1,12 @@
--- A block without a time leaves the last time as it was.
+-- A block without a time leaves the last time as it was. One more block can be counted.
+use native.Mathlib.Omega.{arith}
+use native.Mathlib.Numerals.{add-one}
 use borrow.Author.Needs.{needs}
 use Rattle.volume.proofs.reading.mark_after.Statement.{statement}
 use Rattle.volume.proofs.reading.mark_after.Tie as tie
+
+add-number : tie.Need-add-number
+add-number c = omega (arith, c .before .pre)
 
 enum-told : tie.Need-enum-told
 enum-told c = search needs
@@ -10,10 +15,10 @@ enum-told-2 : tie.Need-enum-told-2
 enum-told-2 c = search needs
 
 returns : tie.Need-returns
-returns c = rw (c .enum-told .given .1)
+returns c = rw (c .enum-told .given .1, add-one)
 
 returns-2 : tie.Need-returns-2
-returns-2 c = rw (c .enum-told2 .given .1)
+returns-2 c = rw (c .enum-told2 .given .1, add-one)
 
 pub mark-after-spec : {M : Type 1} → statement M
-mark-after-spec = tie.close (tie.spec enum-told enum-told-2 returns returns-2)
+mark-after-spec = tie.close (tie.spec add-number enum-told enum-told-2 returns returns-2)
