@@ -74,7 +74,7 @@ fresh volume reading buffer small r room =
     let start : Reading = record { header = reading .header; blocks = [] } in
     let w : Wrote first (startOf reading) start (reading .blocks) (appends ours first (startOf reading) (reading .blocks))
     = wrote (reading .blocks) first (startOf reading) start (header-stands buffer (reading .header) (k .header) (omega arith))
-    (keeps-follow reading k) (omega arith) (omega arith) in
+    (keeps-follow reading k (rw (r .bytes) small)) (omega arith) (omega arith) in
     let outcome : Outcome = appends ours first (startOf reading) (reading .blocks) in
     let stands : Sofar (outcome .buffer) (outcome .mark) reading = w .stands in
     let bytes : take (outcome .mark .offset) (outcome .buffer) ≡ volume = stands .same ∙ r .bytes in

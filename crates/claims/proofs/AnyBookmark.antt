@@ -19,11 +19,10 @@ use Rattle.volume.specs.Reading.{readAnswer}
 use Rattle.volume.specs.declared.Bookmark.{Bookmark}
 use Rattle.volume.specs.declared.Found.{Found}
 use Rattle.volume.specs.declared.ReadAnswer.the-variants as read
-use Rattle.volume.proofs.Steps.{foundAt}
+use Rattle.volume.proofs.Steps.{foundAt, found-there}
 use Rattle.volume.proofs.OneCall.{Allowed, HandedOut, read-sound, Hands, read-complete, end-sound, end-complete}
 use Rattle.claims.specs.Library.{ours}
 use Rattle.claims.specs.AnyBookmark.{Stands, InARow, HandedClaim, AnyBookmark}
-use Rattle.claims.proofs.Appends.{found-there}
 
 -- a table where one is due, said by the bookmark's flag and by the kind
 due-table : (due : Bool) (block : Block) → due ≡ isTable block → (due ≡ true) ↔ IsTable block
@@ -74,12 +73,14 @@ module _ (volume : List ℕ) (mark : Bookmark) (b : Bytes volume) where
           keeps = p .allowed .keeps;
           a-table-where-due = due-table (mark .due) block (p .allowed .place);
           time = p .allowed .time;
+          countable = p .allowed .counted;
           image-there =
               ap (λ bytes. take (length (image block)) bytes) (p .same) ∙ take-at (image block) (drop (found .next .offset) volume) (length (image block)) refl;
         };
         places =
             subst (λ (f : Found). InARow (mark .offset + fixedLength (kindOf (shown volume (f .block)))) (parts (f .block)))
             (found-there volume mark found e) places-here;
+        number = p .number;
         next = p .next;
       }
 
@@ -91,6 +92,7 @@ module _ (volume : List ℕ) (mark : Bookmark) (b : Bytes volume) where
         place = table-due (mark .due) (isTable block) (λ d. table-iff block .1 (s .a-table-where-due .0 d)) (λ t. s .a-table-where-due .1 (table-iff block .0 t));
         keeps = s .keeps;
         time = s .time;
+        counted = s .countable;
       } in
       let rest : List ℕ = drop (mark .offset + length (image block)) volume in
       let there : drop (mark .offset) volume ≡ image block ++ rest

@@ -7,7 +7,7 @@ use mathlib.Core.List.{List}
 use native.Mathlib.Omega.{arith}
 use lib.Dec.{eqb}
 use lib.ListN.{length}
-use borrow.Author.Tests.{eqb-true, eqb-false, le-ltb}
+use borrow.Author.Tests.{eqb-true, eqb-false, le-ltb, lt-leb}
 use Rattle.number.specs.Number.{put}
 use Rattle.checks.specs.Checks.{clear, miss}
 use Rattle.checks.proofs.Laws.{decided, none-append}
@@ -50,6 +50,7 @@ module _ (room : ℕ) (mark : Bookmark) (block : Block) where
           place = right-place (mark .due) _ (p .place);
           keeps = request-sound block s (p .own);
           time = follows (mark .last) _ (p .time);
+          counted = p .counted;
         };
         base = p .base;
         small = p .small;
@@ -61,7 +62,7 @@ module _ (room : ℕ) (mark : Bookmark) (block : Block) where
   append-complete a =
       let time = may-follow (mark .last) (timeOf block) (a .allowed .time) in
       none-append (placeOrder mark (isTable block)) _ tt
-      (sym (decided (miss (le-ltb _ _ (a .base)) (miss (place-right (mark .due) (isTable block) (a .allowed .place)) clear))))
+      (sym (decided (miss (le-ltb _ _ (a .base)) (miss (place-right (mark .due) (isTable block) (a .allowed .place)) (miss (lt-leb _ _ (a .allowed .counted)) clear)))))
       (none-append (requestOrder block) _ (request-numbered block) (request-complete block (a .allowed .keeps) .1)
       (sym (decided (miss (ap not time) (miss (le-ltb _ _ (a .small)) (miss (le-ltb _ _ (a .fits)) clear))))))
 

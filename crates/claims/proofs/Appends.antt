@@ -22,7 +22,7 @@ use Rattle.volume.specs.declared.Found.{Found}
 use Rattle.volume.specs.declared.ReadAnswer.{ReadAnswer}
 use Rattle.volume.specs.declared.ReadAnswer.the-variants as read
 use Rattle.volume.specs.declared.WriteAnswer.{WriteAnswer}
-use Rattle.volume.proofs.Steps.{foundAt, Answers, ends, finds, refuses, answers, read-further}
+use Rattle.volume.proofs.Steps.{foundAt, found-there, read-further}
 use Rattle.volume.proofs.OneCall.{after, HandedOut, read-sound, Hands, read-complete}
 use Rattle.claims.specs.Library.{ours}
 use Rattle.claims.specs.Demand3.{Outcome, onward, answeredFirst, appends, extended, Judged, none-left, accepted, refused, StillRead}
@@ -108,15 +108,6 @@ claimed (block ∷ asked) sized buffer mark sofar s =
 
 -- Earlier blocks.
 
--- a block that is handed out is the one that stands there
-pub found-there : (volume : List ℕ) (mark : Bookmark) (found : Found) → readAnswer volume mark ≡ read.Found found → foundAt volume mark ≡ found
-found-there volume mark found e = go (answers volume mark) e
-  where
-    go : {a : ReadAnswer} → Answers volume mark a → a ≡ read.Found found → foundAt volume mark ≡ found
-    go (ends p) q = let z : _≡_ {A = ℕ} 0 1 = cc in absurd (omega arith)
-    go (finds p f) q = cc
-    go (refuses p f) q = let z : _≡_ {A = ℕ} 0 1 = cc in absurd (omega arith)
-
 pub still-read : (volume more : List ℕ) (mark : Bookmark) (found : Found) → Bytes volume → length (volume ++ more) ≤ volumeLimit
     → readAnswer volume mark ≡ read.Found found → StillRead ours volume (volume ++ more) mark found
 still-read volume more mark found b small e =
@@ -133,8 +124,9 @@ still-read volume more mark found b small e =
     let same : blockAt (volume ++ more) offset ≡ found .block
     = same-block block (volume ++ more) volume offset (after ++ more) after (p .allowed .keeps) d (p .same)
     ∙ ap (λ (f : Found). f .block) here in
+    let number : mark .number ≡ found .number = sym (p .number) in
     let next : foundAt (volume ++ more) mark .next ≡ found .next = h .next ∙ sym (p .next) in
     record {
-      same-place = h .answer ∙ ap read.Found (λ i. record { block = same i; next = next i });
+      same-place = h .answer ∙ ap read.Found (λ i. record { block = same i; number = number i; next = next i });
       same-reading = ap (shown (volume ++ more)) (sym same) ∙ h .same;
     }

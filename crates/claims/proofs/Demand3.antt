@@ -22,7 +22,7 @@ use Rattle.claims.specs.Demand3.{Outcome, appends, written, VolumeClaim,
 use Rattle.claims.proofs.Appending.{header-sized}
 use Rattle.claims.proofs.Demand3Reading.{reading-gives, check-answers, demand-3-reading-holds}
 use Rattle.claims.proofs.Refused.{refused-volumes}
-use Rattle.claims.proofs.Sofar.{volume-more, Sofar, sofar-keeps, none-due}
+use Rattle.claims.proofs.Sofar.{volume-more, Sofar, sofar-counted, sofar-keeps, none-due}
 use Rattle.claims.proofs.Appends.{Claimed, claimed, still-read}
 use Rattle.claims.proofs.Starts.{start-stands}
 use Rattle.claims.proofs.Afresh.{fresh}
@@ -62,6 +62,7 @@ appends-claim buffer mark sofar asked b sized start =
       each-accepted-exactly-if-allowed = c .judged;
       bytes-below = bytes;
       rest-as-it-was = c .rest;
+      counted = sofar-counted (outcome .buffer) (outcome .mark) (extended sofar (c .blocks)) t;
       due-says = (
         λ none. sofar-keeps (outcome .buffer) (outcome .mark) (extended sofar (c .blocks)) t none .table,
         none-due (outcome .buffer) (outcome .mark) (extended sofar (c .blocks)) t,

@@ -1,5 +1,5 @@
 -- Demand 3 on reading holds: a volume's reading, the reader's calls and the check are each got from the others. Assumes nothing.
-use Prim.Native.Nat.{ℕ, _≤_}
+use Prim.Native.Nat.{ℕ, _+_, _≤_}
 use mathlib.Core.Path.{_≡_, sym, ap, ap₂, _∙_, subst}
 use mathlib.Core.List.{List, _++_}
 use native.Mathlib.Nat.{zero-add}
@@ -25,7 +25,7 @@ use Rattle.volume.proofs.HeaderImage.{givenAt, HeaderAnswers, accepts, rejects,
 use Rattle.volume.proofs.Checked.{checked, checked-exactly}
 use Rattle.claims.specs.Library.{ours}
 use Rattle.claims.specs.Demand3Reading.{Calls, ReaderGives, IsAccepted, Demand3Reading}
-use Rattle.claims.proofs.Walk.{afterAll, runs-volume, volume-runs}
+use Rattle.claims.proofs.Walk.{afterAll, number-after, few-blocks, runs-volume, volume-runs}
 use Rattle.claims.proofs.Reader.{Read, calls-sound, calls-complete, check-complete, Told, told, calls-same}
 
 -- an accepted header has no fault, and it is answered with what stands in it
@@ -38,11 +38,15 @@ header-given volume given = go (header-answers volume)
     go (accepts f) e = (f, cc)
     go (rejects f) e = let z : _≡_ {A = ℕ} 0 1 = cc in absurd (omega arith)
 
+-- so the reader begins at the first bookmark
+pub first-given : (volume : List ℕ) (given : HeaderRead) → headerAnswer volume ≡ head.Accepted given → firstMark (sequenceOf volume) ≡ given .next
+first-given volume given e = ap (λ (a : HeaderRead). a .next) (header-given volume given e .1)
+
 -- what the reader gives is the header that stands there, and the blocks of the calls from the bookmark after it
 pub record Given (volume : List ℕ) (reading : Reading) (end : Bookmark) : Type 0 where
   pub no-fault : headerFault volume ≡ 0
   pub same-header : headerAt volume ≡ reading .header
-  pub calls : Calls ours volume (firstMark (sequenceOf volume)) (reading .blocks) end
+  pub calls : Calls ours volume 0 (firstMark (sequenceOf volume)) (reading .blocks) end
 
 pub given : (volume : List ℕ) (reading : Reading) (end : Bookmark) → ReaderGives ours volume reading end → Given volume reading end
 given volume reading end g =
@@ -59,7 +63,7 @@ given volume reading end g =
 
 -- blocks that the calls give after an accepted header, with the header that stands there, are a reading
 header-and-calls : (volume : List ℕ) (blocks : List Block) (end : Bookmark) → Bytes volume → headerFault volume ≡ 0
-    → Calls ours volume (firstMark (sequenceOf volume)) blocks end
+    → Calls ours volume 0 (firstMark (sequenceOf volume)) blocks end
     → ReadingOf volume (record { header = headerAt volume; blocks = blocks })
 unfolding volumeOf
 header-and-calls volume blocks end b f calls =
@@ -90,27 +94,35 @@ reading-gives volume reading small r =
     let h : HeaderShown volume header = header-complete volume header (images (reading .blocks)) (k .header) small e in
     let s : sequenceOf volume ≡ header .sequence = ap (λ a. a .sequence) (h .shown) in
     let l : length (headerImage header) ≡ 80 = length-header header (k .header) in
-    let long : 80 ≤ length volume
-    = omega (arith, ap length e ∙ length-append (headerImage header) (images (reading .blocks))) in
+    let long : length volume ≡ length (headerImage header) + length (images (reading .blocks))
+    = ap length e ∙ length-append (headerImage header) (images (reading .blocks)) in
     record {
       first = firstMark (header .sequence);
       header = rw (h .no-fault, s);
       id = rw (h .no-fault) (ap (λ a. a .id) (h .shown));
       previous = rw (h .no-fault) (ap (λ a. a .previous) (h .shown));
       blocks =
-          calls-complete volume (firstMark (header .sequence)) (reading .blocks) small (omega arith) long
-          (volume-runs (header .sequence) (reading .blocks) (k .each, k .table, k .times))
+          calls-complete volume (firstMark (header .sequence)) (reading .blocks) small (omega arith) (omega arith)
+          (volume-runs (header .sequence) (reading .blocks) (omega (arith, few-blocks (reading .blocks))) (k .each, k .table, k .times))
           (drop-past volume (headerImage header) (images (reading .blocks)) 0 80 e l);
+      counted = number-after (firstMark (header .sequence)) (reading .blocks) ∙ zero-add (length (reading .blocks));
     }
 
--- the check counts what the reader gives
+-- the check ends where the reader does
 pub check-answers : (volume : List ℕ) (reading : Reading) (end : Bookmark) → ReaderGives ours volume reading end
-    → checkAnswer volume
-    ≡ verdict.Accepted (record { sequence = reading .header .sequence; blocks = length (reading .blocks); end = end })
+    → checkAnswer volume ≡ verdict.Accepted (record { sequence = reading .header .sequence; end = end })
 check-answers volume reading end g =
-    sym
-    (checked-exactly volume _ .0
-    (after-the-header (g .header) (rw (← zero-add (length (reading .blocks))) (check-complete (reading .header .sequence) 0 (g .blocks)))))
+    sym (checked-exactly volume _ .0 (after-the-header (g .header) (check-complete (reading .header .sequence) (g .blocks))))
+
+-- and its number of blocks is that of the reading
+check-counts : (volume : List ℕ) (reading : Reading) (answer : Accepted) → length volume ≤ 16777216 → ReadingOf volume reading
+    → checkAnswer volume ≡ verdict.Accepted answer → answer .end .number ≡ length (reading .blocks)
+check-counts volume reading answer small r e =
+    let end : Bookmark = afterAll (firstMark (reading .header .sequence)) (reading .blocks) in
+    let g : ReaderGives ours volume reading end = reading-gives volume reading small r in
+    let right = check-answers volume reading end g in
+    let same : record { sequence = reading .header .sequence; end = end } ≡ answer = cc in
+    sym (ap (λ (a : Accepted). a .end .number) same) ∙ g .counted
 
 -- where the check accepts, the reader comes to "end", so there is a reading
 accepted-reading : (volume : List ℕ) → Bytes volume → IsAccepted ours volume → HasReading volume
@@ -120,10 +132,10 @@ accepted-reading volume b a = go (checked volume) (a .1)
     go (refused-at-the-header e) same = let z : _≡_ {A = ℕ} 0 1 = cc in absurd (omega arith)
     go (after-the-header {header = header} e later) same =
         let h = header-given volume header e in
-        let t : Told volume (header .next) 0 (verdict.Accepted (a .0)) = subst (Told volume (header .next) 0) same (told later) in (
+        let t : Told volume (header .next) (verdict.Accepted (a .0)) = subst (Told volume (header .next)) same (told later) in (
           record { header = headerAt volume; blocks = t .0 },
           header-and-calls volume (t .0) (a .0 .end) b (h .0)
-              (subst (λ g. Calls ours volume (g .next) (t .0) (a .0 .end)) (sym (h .1)) (t .1)),
+              (subst (λ g. Calls ours volume (g .next .number) (g .next) (t .0) (a .0 .end)) (sym (h .1)) (t .1)),
         )
 
 -- both readings are what the reader gives
@@ -144,4 +156,5 @@ demand-3-reading-holds volume b small =
       reader-gives-the-reading =
           λ reading. ((λ r. (_, reading-gives volume reading small r)), λ g. gives-reading volume reading (g .0) b (g .1));
       check-answers-for-the-reading = check-answers volume;
+      check-counts-the-blocks = λ reading answer r e. check-counts volume reading answer small r e;
     }

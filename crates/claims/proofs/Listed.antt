@@ -1,10 +1,10 @@
 -- The listing is the text that is claimed: its lines are got from the calls of the reader, block by block, and so is every other such
 -- text. Assumes nothing.
-use Prim.Native.Nat.{ℕ, suc, _+_, _≤_, _<_}
+use Prim.Native.Nat.{ℕ, _+_, _≤_, _<_}
 use mathlib.Core.Path.{_≡_, refl, sym, ap, subst, _∙_}
 use mathlib.Core.Bool.{Bool, true, false}
 use mathlib.Core.List.{List, _∷_, _++_, append-assoc}
-use native.Mathlib.Nat.{add-zero, zero-add}
+use native.Mathlib.Nat.{zero-add}
 use native.Mathlib.Omega.{arith}
 use lib.Dec.{ltb}
 use lib.ListN.{length}
@@ -30,7 +30,6 @@ use Rattle.volume.specs.declared.Verdict.{Verdict}
 use Rattle.volume.specs.declared.Verdict.the-variants as verdict
 use Rattle.volume.proofs.Walk.{walk-step}
 use Rattle.volume.proofs.Checked.{checked}
-use Rattle.volume.proofs.HeaderImage.{givenAt, HeaderAnswers, accepts, rejects, header-answers}
 use Rattle.volume.proofs.OneCall.{read-sound, end-sound}
 use Rattle.listing.specs.Listing.{headingLine, endLine, refusedLine, listAnswer}
 use Rattle.listing.specs.inner.Text.{listingWay, linesFrom, afterHeading, listing}
@@ -39,50 +38,48 @@ use Rattle.claims.specs.Library.{ours}
 use Rattle.claims.specs.Demand3Reading.{Calls, ended, handed, ReaderGives, Stops, stopped, handed-before}
 use Rattle.claims.specs.Listed.{linesOf, IsListing, of-an-accepted-volume, of-a-refused-header, of-a-refused-block, of-a-longer-volume, Listed}
 use Rattle.claims.proofs.Reader.{Told, told}
-use Rattle.claims.proofs.Demand3Reading.{demand-3-reading-holds}
+use Rattle.claims.proofs.Demand3Reading.{first-given, demand-3-reading-holds}
+use Rattle.claims.proofs.Refused.{from-zero}
 
 -- The lines from a bookmark on, by the calls of the reader.
 
 module _ (volume : List ℕ) (b : Bytes volume) where
   -- a block that is handed out has its line, and the lines go on where its image ends
-  lines-go-on : (mark : Bookmark) (found : Found) (blocks : List Block) (last : List ℕ) (count : ℕ)
+  lines-go-on : (mark : Bookmark) (found : Found) (blocks : List Block) (last : List ℕ)
       → readAnswer volume mark ≡ read.Found found
-      → linesFrom volume (found .next) (suc count) ≡ linesOf (found .next .offset) blocks ++ last
-      → linesFrom volume mark count ≡ linesOf (mark .offset) (shown volume (found .block) ∷ blocks) ++ last
-  lines-go-on mark found blocks last count e others =
+      → linesFrom volume (found .next) ≡ linesOf (found .next .offset) blocks ++ last
+      → linesFrom volume mark ≡ linesOf (mark .offset) (shown volume (found .block) ∷ blocks) ++ last
+  lines-go-on mark found blocks last e others =
       let end : found .next .offset ≡ mark .offset + length (image (shown volume (found .block)))
       = ap (λ a. a .offset) (read-sound volume mark found b e .next) in
-      block-has-its-line volume mark found count b e ∙ rw (others, end) (simp append-assoc)
+      block-has-its-line volume mark found b e ∙ rw (others, end) (simp append-assoc)
 
-  lines-of-calls : {mark end : Bookmark} {blocks : List Block} (count : ℕ) → Calls ours volume mark blocks end
-      → linesFrom volume mark count ≡ linesOf (mark .offset) blocks ++ endLine (end .offset) (count + length blocks)
+  lines-of-calls : {number : ℕ} {mark end : Bookmark} {blocks : List Block} → Calls ours volume number mark blocks end
+      → linesFrom volume mark ≡ linesOf (mark .offset) blocks ++ endLine (end .offset) (end .number)
   unfolding onRead
-  lines-of-calls {mark} count (ended e) = walk-step volume (listingWay volume) mark count e ∙ rw (add-zero count)
-  lines-of-calls {mark} count (handed {found = found} {blocks = blocks} e calls) =
-      let n : suc count + length blocks ≡ count + suc (length blocks) = omega arith in
-      lines-go-on mark found blocks _ count e (rw (← n) (lines-of-calls (suc count) calls))
+  lines-of-calls {mark = mark} (ended e) = walk-step volume (listingWay volume) mark e
+  lines-of-calls {mark = mark} (handed {found = found} {blocks = blocks} e numbered calls) =
+      lines-go-on mark found blocks _ e (lines-of-calls calls)
 
-  lines-of-stops : {mark at : Bookmark} {blocks : List Block} {refusal : Refusal} (count : ℕ) → Stops ours volume mark blocks at refusal
-      → linesFrom volume mark count ≡ linesOf (mark .offset) blocks ++ refusedLine (refusal .number) (at .offset)
+  lines-of-stops : {number : ℕ} {mark at : Bookmark} {blocks : List Block} {refusal : Refusal}
+      → Stops ours volume number mark blocks at refusal
+      → linesFrom volume mark ≡ linesOf (mark .offset) blocks ++ refusedLine (refusal .number) (at .offset)
   unfolding onRead
-  lines-of-stops {mark} count (stopped e) = walk-step volume (listingWay volume) mark count e
-  lines-of-stops {mark} count (handed-before {found = found} {blocks = blocks} e calls) =
-      lines-go-on mark found blocks _ count e (lines-of-stops (suc count) calls)
+  lines-of-stops {mark = mark} (stopped e) = walk-step volume (listingWay volume) mark e
+  lines-of-stops {mark = mark} (handed-before {found = found} {blocks = blocks} e numbered calls) =
+      lines-go-on mark found blocks _ e (lines-of-stops calls)
 
 -- "end" is said at the volume's length
-calls-end : {volume : List ℕ} {mark end : Bookmark} {blocks : List Block} → Calls ours volume mark blocks end → end .offset ≡ length volume
-calls-end {volume} {mark} (ended e) = end-sound volume mark e .offset
-calls-end (handed e calls) = calls-end calls
+calls-end : {volume : List ℕ} {number : ℕ} {mark end : Bookmark} {blocks : List Block} → Calls ours volume number mark blocks end
+    → end .offset ≡ length volume
+calls-end {volume} {mark = mark} (ended e) = end-sound volume mark e .offset
+calls-end (handed e numbered calls) = calls-end calls
 
 -- From the header on.
 
 -- the reader begins at 80
 first-at-80 : (volume : List ℕ) (header : HeaderRead) → headerAnswer volume ≡ head.Accepted header → header .next .offset ≡ 80
-first-at-80 volume header = go (header-answers volume)
-  where
-    go : {a : HeaderAnswer} → HeaderAnswers volume a → a ≡ head.Accepted header → header .next .offset ≡ 80
-    go (accepts f) e = let same : header ≡ givenAt volume = cc in ap (λ a. a .next .offset) same
-    go (rejects f) e = let z : _≡_ {A = ℕ} 0 1 = cc in absurd (omega arith)
+first-at-80 volume header e = sym (ap (λ (mark : Bookmark). mark .offset) (first-given volume header e))
 
 module _ (volume : List ℕ) (b : Bytes volume) (small : length volume ≤ 65536) where
   text-after : {a : HeaderAnswer} → headerAnswer volume ≡ a → listing volume ≡ headingLine ++ afterHeading volume a
@@ -91,7 +88,7 @@ module _ (volume : List ℕ) (b : Bytes volume) (small : length volume ≤ 65536
 
   -- the lines of blocks and a last one, after an accepted header
   text-with : (header : HeaderRead) (blocks : List Block) (last : List ℕ) → headerAnswer volume ≡ head.Accepted header
-      → linesFrom volume (header .next) 0 ≡ linesOf (header .next .offset) blocks ++ last
+      → linesFrom volume (header .next) ≡ linesOf (header .next .offset) blocks ++ last
       → listing volume ≡ headingLine ++ (linesOf 80 blocks ++ last)
   unfolding afterHeading
   text-with header blocks last e lines =
@@ -102,18 +99,18 @@ module _ (volume : List ℕ) (b : Bytes volume) (small : length volume ≤ 65536
       → listing volume ≡ headingLine ++ (linesOf 80 (reading .blocks) ++ endLine (length volume) (length (reading .blocks)))
   text-of-accepted reading end g =
       text-with _ (reading .blocks) _ (g .header)
-      (rw (calls-end (g .blocks), zero-add) at (lines-of-calls volume b 0 (g .blocks)))
+      (rw (calls-end (g .blocks), g .counted) at (lines-of-calls volume b (g .blocks)))
 
   -- a reading, or where the reader is refused, makes the listing such a text
   listed-after : (header : HeaderRead) → headerAnswer volume ≡ head.Accepted header → (answer : Verdict) → checkAnswer volume ≡ answer
-      → Told volume (header .next) 0 answer → IsListing ours volume (listing volume)
+      → Told volume (header .next) answer → IsListing ours volume (listing volume)
   listed-after header e (verdict.Accepted accepted) same t =
       let reading = demand-3-reading-holds volume b (omega arith) .accepted-iff-it-has-a-reading .0 (accepted, same) in
       let gives = demand-3-reading-holds volume b (omega arith) .reader-gives-the-reading (reading .0) .0 (reading .1) in
       subst (IsListing ours volume) (sym (text-of-accepted (reading .0) _ (gives .1))) (of-an-accepted-volume (reading .0) small (reading .1))
   listed-after header e (verdict.Refused rejected) same (blocks, at, stops, _) =
-      subst (IsListing ours volume) (sym (text-with header blocks _ e (lines-of-stops volume b 0 stops)))
-      (of-a-refused-block header blocks at (rejected .refusal) small e stops)
+      subst (IsListing ours volume) (sym (text-with header blocks _ e (lines-of-stops volume b stops)))
+      (of-a-refused-block header blocks at (rejected .refusal) small e (from-zero e stops))
 
   listed-here : IsListing ours volume (listing volume)
   unfolding afterHeading
@@ -145,7 +142,7 @@ module _ (volume : List ℕ) (b : Bytes volume) where
       sym (text-of-accepted volume b small reading _ (gives .1))
   only-listing other (of-a-refused-header refusal small e) = sym (text-after volume b small e)
   only-listing other (of-a-refused-block header blocks at refusal small e stops) =
-      sym (text-with volume b small header blocks _ e (lines-of-stops volume b 0 stops))
+      sym (text-with volume b small header blocks _ e (lines-of-stops volume b stops))
   only-listing other (of-a-longer-volume long) = sym (too-long long)
 
 pub listed-holds : Listed ours

@@ -4,11 +4,13 @@ use Prim.Native.Nat.{ℕ, zero, suc, _+_, _≤_}
 use mathlib.Core.Path.{_≡_, refl, sym, ap, _∙_, subst}
 use mathlib.Core.Bool.{false}
 use mathlib.Core.List.{List, [], _∷_, _++_, append-assoc, append-nil}
+use native.Mathlib.Nat.{zero-add}
 use native.Mathlib.Omega.{arith}
 use lib.ListN.{length, take, drop, length-append}
 use lib.Seq.{length-take-le, take-at}
 use Rattle.number.specs.Number.{put}
 use Rattle.number.proofs.Put.{put-fits, length-put}
+use Rattle.format.specs.Extents.{top}
 use Rattle.format.specs.Blocks.{Block, image}
 use Rattle.format.specs.Headers.{headerImage, HeaderRules}
 use Rattle.format.specs.Readings.{Reading, TableRule, Keeps, images, volumeOf}
@@ -18,7 +20,7 @@ use Rattle.volume.specs.declared.Bookmark.{Bookmark}
 use Rattle.volume.proofs.OneCall.{Allowed, after}
 use Rattle.claims.specs.Demand3.{extended, Permits, NoTableDue}
 use Rattle.claims.proofs.Appending.{Admitted}
-use Rattle.claims.proofs.Walk.{Runs, afterAll, runs-volume, volume-runs}
+use Rattle.claims.proofs.Walk.{Runs, afterAll, number-after, few-blocks, runs-volume, volume-runs}
 
 -- Blocks one after the other, and one more.
 
@@ -99,6 +101,11 @@ take-written buffer offset new h =
     ap (take (offset + length new)) (put-fits buffer offset new h ∙ sym (append-assoc (take offset buffer) new rest))
     ∙ take-at front rest (offset + length new) l
 
+-- the bookmark has counted the blocks
+pub sofar-counted : (buffer : List ℕ) (mark : Bookmark) (sofar : Reading) → Sofar buffer mark sofar → mark .number ≡ length (sofar .blocks)
+sofar-counted buffer mark sofar s =
+    ap (λ (m : Bookmark). m .number) (s .mark-after) ∙ number-after (startOf sofar) (sofar .blocks) ∙ zero-add (length (sofar .blocks))
+
 -- with no table due, the header and blocks are a reading
 pub sofar-keeps : (buffer : List ℕ) (mark : Bookmark) (sofar : Reading) → Sofar buffer mark sofar → mark .due ≡ false → Keeps sofar
 sofar-keeps buffer mark sofar s d =
@@ -120,10 +127,14 @@ pub none-due : (buffer : List ℕ) (mark : Bookmark) (sofar : Reading) → Sofar
 none-due buffer mark sofar s rule =
     ap (λ (m : Bookmark). m .due) (s .mark-after) ∙ due-after (sofar .header .sequence) (sofar .blocks) rule
 
-pub keeps-follow : (reading : Reading) → Keeps reading → Follow (startOf reading) (reading .blocks)
-keeps-follow reading k =
+pub keeps-follow : (reading : Reading) → Keeps reading → length (volumeOf reading) ≤ volumeLimit
+    → Follow (startOf reading) (reading .blocks)
+unfolding volumeOf
+keeps-follow reading k small =
+    let l = length-append (headerImage (reading .header)) (images (reading .blocks)) in
+    let few : length (reading .blocks) ≤ top = omega (arith, few-blocks (reading .blocks)) in
     runs-follow (startOf reading) (reading .blocks)
-    (volume-runs (reading .header .sequence) (reading .blocks) (k .each, k .table, k .times))
+    (volume-runs (reading .header .sequence) (reading .blocks) few (k .each, k .table, k .times))
 
 module _ (buffer : List ℕ) (mark : Bookmark) (sofar : Reading) (block : Block) (s : Sofar buffer mark sofar) where
   longer : length (volumeOf (extended sofar (block ∷ []))) ≡ mark .offset + length (image block)
@@ -162,7 +173,7 @@ module _ (buffer : List ℕ) (mark : Bookmark) (sofar : Reading) (block : Block)
   pub permits-admitted : Permits (length buffer) sofar block → Admitted (length buffer) mark block
   permits-admitted p =
       let l = longer in
-      let f = keeps-follow (extended sofar (block ∷ [])) (p .keeps) in
+      let f = keeps-follow (extended sofar (block ∷ [])) (p .keeps) (p .within-size) in
       record {
         allowed = subst (λ m. Allowed m block) (sym (s .mark-after)) (follow-last _ (sofar .blocks) block f);
         base = s .base;

@@ -54,7 +54,7 @@ volume-stands volume spare reading small r =
     = omega (arith, offset-after (startOf reading) (reading .blocks)) in
     record {
       header = k .header;
-      follow = keeps-follow reading k;
+      follow = keeps-follow reading k (rw (r .bytes) small);
       mark-after = refl;
       base = omega arith;
       room = omega (arith, length-append volume spare);
@@ -66,7 +66,7 @@ volume-stands volume spare reading small r =
 one-end : (volume : List ℕ) (reading : Reading) (a b : Bookmark) → ReaderGives ours volume reading a → ReaderGives ours volume reading b → a ≡ b
 one-end volume reading a b p q =
     let accepted : Bookmark → Accepted
-    = λ end. record { sequence = reading .header .sequence; blocks = length (reading .blocks); end = end } in
+    = λ end. record { sequence = reading .header .sequence; end = end } in
     let c = check-answers volume reading a p in
     let d = check-answers volume reading b q in
     let same : accepted a ≡ accepted b = cc in

@@ -68,9 +68,9 @@ of-bare library claim = of-reading library bare claim first-rules tt (omega (ari
 abbrev pub bareData : (time : ℕ) → Block
 bareData time = Data (record { time = time; payload = [] })
 
--- a bookmark where no table is due and no time stands before
-abbrev pub untimed : (offset : ℕ) → Bookmark
-untimed offset = record { offset = offset; due = false; last = Never }
+-- a bookmark after so many blocks where no table is due and no time stands before
+abbrev pub untimed : (offset number : ℕ) → Bookmark
+untimed offset number = record { offset = offset; due = false; last = Never; number = number }
 
 pub data-long : (time : ℕ) → length (image (bareData time)) ≡ 21
 unfolding image sealed laid leBytes
@@ -80,15 +80,15 @@ pub data-rules : (time : ℕ) → time < 256 ^ 8 → BlockRules (bareData time)
 data-rules time small = record { fit = (small, (omega arith, tt)); bytes = λ i. omega arith; rules = tt }
 
 -- it is appended wherever there is room and no last time before it
-pub data-appended : (buffer : List ℕ) (offset time : ℕ) → time < 256 ^ 8 → 80 ≤ offset → offset + 21 ≤ length buffer
-    → offset + 21 ≤ 16777216
-    → (appendAnswer (length buffer) (untimed offset) (bareData time) ≡ Next (after (untimed offset) (bareData time)))
-    × (length (appendBuffer buffer (untimed offset) (bareData time)) ≡ length buffer)
-data-appended buffer offset time small base room limit =
+pub data-appended : (buffer : List ℕ) (offset number time : ℕ) → time < 256 ^ 8 → 80 ≤ offset → offset + 21 ≤ length buffer
+    → offset + 21 ≤ 16777216 → number ≤ offset
+    → (appendAnswer (length buffer) (untimed offset number) (bareData time) ≡ Next (after (untimed offset number) (bareData time)))
+    × (length (appendBuffer buffer (untimed offset number) (bareData time)) ≡ length buffer)
+data-appended buffer offset number time small base room limit few =
     let long = data-long time in
-    let there = admitted-appended buffer (untimed offset) (bareData time)
+    let there = admitted-appended buffer (untimed offset number) (bareData time)
     (record {
-      allowed = record { place = refl; keeps = data-rules time small; time = tt };
+      allowed = record { place = refl; keeps = data-rules time small; time = tt; counted = omega arith };
       base = base;
       small = omega (arith, long);
       fits = omega (arith, long);

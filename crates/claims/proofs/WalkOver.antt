@@ -23,34 +23,34 @@ use Rattle.claims.proofs.Walk.{afterAll}
 use Rattle.claims.proofs.Demand3Reading.{reading-gives}
 
 -- what a walk does at a block, in the format's own words
-abbrev pub AtBlock : (Kept Answer : Type 0) → Type 0
-AtBlock Kept Answer = Bookmark → Block → Kept → (onward : Kept → Answer) → Answer
+abbrev pub AtBlock : (Answer : Type 0) → Type 0
+AtBlock Answer = Bookmark → Block → (onward : Answer) → Answer
 
-abbrev pub fold : {Kept Answer : Type 0} → AtBlock Kept Answer → (atEnd : Bookmark → Kept → Answer) → Bookmark → List Block → Kept → Answer
-fold atBlock atEnd mark [] kept = atEnd mark kept
-fold atBlock atEnd mark (block ∷ blocks) kept = atBlock mark block kept (λ later. fold atBlock atEnd (after mark block) blocks later)
+abbrev pub fold : {Answer : Type 0} → AtBlock Answer → (atEnd : Bookmark → Answer) → Bookmark → List Block → Answer
+fold atBlock atEnd mark [] = atEnd mark
+fold atBlock atEnd mark (block ∷ blocks) = atBlock mark block (fold atBlock atEnd (after mark block) blocks)
 
-module _ {Kept Answer : Type 0} (volume : List ℕ) (b : Bytes volume) (way : Way Kept Answer) (atBlock : AtBlock Kept Answer)
+module _ {Answer : Type 0} (volume : List ℕ) (b : Bytes volume) (way : Way Answer) (atBlock : AtBlock Answer)
     -- the way takes a block as it is in the format
-    (same : (mark : Bookmark) (found : Found) → readAnswer volume mark ≡ read.Found found → (kept : Kept) (onward : Kept → Answer)
-    → way .atBlock mark found kept onward ≡ atBlock mark (shown volume (found .block)) kept onward) where
-  pub walk-over-calls : {mark end : Bookmark} {blocks : List Block} → Calls ours volume mark blocks end
-      → (kept : Kept) → walkFrom volume way mark kept ≡ fold atBlock (way .atEnd) mark blocks kept
+    (same : (mark : Bookmark) (found : Found) → readAnswer volume mark ≡ read.Found found → (onward : Answer)
+    → way .atBlock mark found onward ≡ atBlock mark (shown volume (found .block)) onward) where
+  pub walk-over-calls : {number : ℕ} {mark end : Bookmark} {blocks : List Block} → Calls ours volume number mark blocks end
+      → walkFrom volume way mark ≡ fold atBlock (way .atEnd) mark blocks
   unfolding onRead
-  walk-over-calls {mark} (ended e) kept = walk-step volume way mark kept e
-  walk-over-calls {mark} (handed {found = found} {blocks = blocks} e calls) kept =
+  walk-over-calls {mark = mark} (ended e) = walk-step volume way mark e
+  walk-over-calls {mark = mark} (handed {found = found} {blocks = blocks} e numbered calls) =
       let block : Block = shown volume (found .block) in
-      walk-step volume way mark kept e
-      ∙ same mark found e kept (λ later. walkFrom volume way (found .next) later)
-      ∙ ap (atBlock mark block kept) (λ i later. walk-over-calls calls later i)
-      ∙ ap (λ (next : Bookmark). atBlock mark block kept (λ later. fold atBlock (way .atEnd) next blocks later)) (read-sound volume mark found b e .next)
+      walk-step volume way mark e
+      ∙ same mark found e (walkFrom volume way (found .next))
+      ∙ ap (atBlock mark block) (walk-over-calls calls)
+      ∙ ap (λ (next : Bookmark). atBlock mark block (fold atBlock (way .atEnd) next blocks)) (read-sound volume mark found b e .next)
 
   pub walk-over-reading : (reading : Reading) → length volume ≤ 16777216 → ReadingOf volume reading
       → (header : HeaderRead) → headerAnswer volume ≡ head.Accepted header
-      → (kept : Kept) → walkFrom volume way (header .next) kept ≡ fold atBlock (way .atEnd) (header .next) (reading .blocks) kept
-  walk-over-reading reading small r header e kept =
+      → walkFrom volume way (header .next) ≡ fold atBlock (way .atEnd) (header .next) (reading .blocks)
+  walk-over-reading reading small r header e =
       let g = reading-gives volume reading small r in
       let first : g .first ≡ header .next = cc (g .header) in
-      let calls : Calls ours volume (header .next) (reading .blocks) (afterAll (firstMark (reading .header .sequence)) (reading .blocks))
+      let calls : Calls ours volume 0 (header .next) (reading .blocks) (afterAll (firstMark (reading .header .sequence)) (reading .blocks))
       = rw first at (g .blocks) in
-      walk-over-calls calls kept
+      walk-over-calls calls

@@ -49,11 +49,11 @@ invents-blocks claim =
     let bent = of-bare inventsBlocks claim .reading .reader-gives-the-reading bare .0 (whole bare bare-keeps) in
     let wrong = of-bare inventsBlocks claim .reading .check-answers-for-the-reading bare (bent .0) (bent .1) in
     let both = sym (ap sevenOf right) ∙ wrong in
-    let e : _≡_ {A = ℕ} 7 0 = ap blocks both in
-    omega arith
+    let e : 7 ≡ bent .0 .number = ap blocks both in
+    omega (arith, bent .1 .counted)
   where
     blocks : Verdict → ℕ
-    blocks (verdict.Accepted a) = a .blocks
+    blocks (verdict.Accepted a) = a .end .number
     blocks (verdict.Refused r) = r .blocks
 
 -- An empty volume is refused at its header, after no block.
@@ -77,15 +77,15 @@ invents-blocks-before-faults claim =
 -- Of two data blocks with two times, a reader that gives the first again gives one time twice.
 same-block : (volume : List ℕ) (found : Found) (a : ReadAnswer) → firstBlock volume a ≡ read.Found found → found .block ≡ blockAt volume 80
 same-block volume found (read.Found other) e =
-    let s : record { block = blockAt volume 80; next = other .next } ≡ found = cc in
+    let s : record { block = blockAt volume 80; number = other .number; next = other .next } ≡ found = cc in
     ap (λ (f : Found). f .block) (sym s)
 same-block volume found read.End e = let z : _≡_ {A = ℕ} 0 1 = cc in absurd (omega arith)
 same-block volume found (read.Refused refusal) e = let z : _≡_ {A = ℕ} 0 1 = cc in absurd (omega arith)
 
-all-the-first : {volume : List ℕ} {mark end : Bookmark} {blocks : List Block} → Calls repeatsFirst volume mark blocks end
+all-the-first : {volume : List ℕ} {number : ℕ} {mark end : Bookmark} {blocks : List Block} → Calls repeatsFirst volume number mark blocks end
     → All (λ block. block ≡ shown volume (blockAt volume 80)) blocks
 all-the-first (ended e) = tt
-all-the-first {volume} {mark} (handed {found = found} e calls) =
+all-the-first {volume} {mark = mark} (handed {found = found} e numbered calls) =
     (ap (shown volume) (same-block volume found (readAnswer volume mark) e), all-the-first calls)
 
 pub repeats-first : Demand3 repeatsFirst → ⊥
@@ -121,15 +121,15 @@ no-links volume (kind.Table b) = refl
 none-found : (volume : List ℕ) (found : Found) (a : ReadAnswer) → withoutLength a ≡ read.Found found
     → linksLength (shown volume (found .block)) ≡ 0
 none-found volume found (read.Found other) e =
-    let s : record { block = emptyPart (other .block); next = other .next } ≡ found = cc in
+    let s : record { block = emptyPart (other .block); number = other .number; next = other .next } ≡ found = cc in
     rw (← ap (λ (f : Found). f .block) s) (no-links volume (other .block))
 none-found volume found read.End e = let z : _≡_ {A = ℕ} 0 1 = cc in absurd (omega arith)
 none-found volume found (read.Refused refusal) e = let z : _≡_ {A = ℕ} 0 1 = cc in absurd (omega arith)
 
-all-without-links : {volume : List ℕ} {mark end : Bookmark} {blocks : List Block} → Calls handsOutNoLinks volume mark blocks end
+all-without-links : {volume : List ℕ} {number : ℕ} {mark end : Bookmark} {blocks : List Block} → Calls handsOutNoLinks volume number mark blocks end
     → All (λ block. linksLength block ≡ 0) blocks
 all-without-links (ended e) = tt
-all-without-links {volume} {mark} (handed {found = found} e calls) =
+all-without-links {volume} {mark = mark} (handed {found = found} e numbered calls) =
     (none-found volume found (readAnswer volume mark) e, all-without-links calls)
 
 pub hands-out-no-links : Demand3 handsOutNoLinks → ⊥

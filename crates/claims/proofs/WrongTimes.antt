@@ -48,10 +48,10 @@ module _ (volume : List ℕ) (mark : Bookmark) (found : Found) where
   not-last read.End e = let z : _≡_ {A = ℕ} 0 1 = cc in absurd (omega arith)
   not-last (read.Refused refusal) e = let z : _≡_ {A = ℕ} 0 1 = cc in absurd (omega arith)
 
-other-times : {volume : List ℕ} {mark end : Bookmark} {blocks : List Block} → Bytes volume
-    → Calls refusesSameTime volume mark blocks end → OtherTimes (mark .last) blocks
+other-times : {volume : List ℕ} {number : ℕ} {mark end : Bookmark} {blocks : List Block} → Bytes volume
+    → Calls refusesSameTime volume number mark blocks end → OtherTimes (mark .last) blocks
 other-times b (ended e) = tt
-other-times {volume} {mark} b (handed {found = found} {blocks = blocks} e calls) =
+other-times {volume} {mark = mark} b (handed {found = found} {blocks = blocks} e numbered calls) =
     let here = not-last volume mark found (readAnswer volume mark) e in
     let next = read-at-any-bookmark volume mark b .handed-out found (here .0) .next in
     (here .1, subst (λ (m : Bookmark). OtherTimes (m .last) blocks) next (other-times b calls))
@@ -74,8 +74,8 @@ accepts-lower-time claim =
     let list = claim .lists-of-appends roomy (firstMark 0) bare (bareData 2 ∷ bareData 1 ∷ []) roomy-bytes
     (rules-sized (bareData 2) (data-rules 2 (omega arith)), (rules-sized (bareData 1) (data-rules 1 (omega arith)), tt))
     (started acceptsLowerTime claim refl) in
-    let first = data-appended roomy 80 2 (omega arith) (omega arith) (omega (arith, roomy-long)) (omega arith) in
+    let first = data-appended roomy 80 0 2 (omega arith) (omega arith) (omega (arith, roomy-long)) (omega arith) (omega arith) in
     let buffer : List ℕ = appendBuffer roomy (firstMark 0) (bareData 2) in
-    let second = data-appended buffer (80 + length (image (bareData 2))) 1 (omega arith) (omega arith)
-    (omega (arith, data-long 2, first .1, roomy-long)) (omega (arith, data-long 2)) in
+    let second = data-appended buffer (80 + length (image (bareData 2))) 1 1 (omega arith) (omega arith)
+    (omega (arith, data-long 2, first .1, roomy-long)) (omega (arith, data-long 2)) (omega arith) in
     not-both (rw (first .0, second .0) at (list .each-accepted-exactly-if-allowed))

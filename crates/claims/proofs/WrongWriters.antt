@@ -35,6 +35,6 @@ unfolding appends
 always-due claim =
     let list = claim .lists-of-appends roomy (firstMark 0) bare (bareData 1 ∷ []) roomy-bytes
     (rules-sized (bareData 1) (data-rules 1 (omega arith)), tt) (started alwaysDue claim refl) in
-    let there = data-appended roomy 80 1 (omega arith) (omega arith) (omega (arith, roomy-long)) (omega arith) in
+    let there = data-appended roomy 80 0 1 (omega arith) (omega arith) (omega (arith, roomy-long)) (omega arith) (omega arith) in
     let says = rw (there .0) at (list .due-says .1 (none-due (list .each-accepted-exactly-if-allowed))) in
     true≢false says

@@ -2,7 +2,7 @@
 -- out wherever the rules allow it there. Which of several faults is given otherwise, the order of checks says (`readOrder`).
 --
 -- It is a claim about a library, by its calls. Proved of ours in proofs/AnyBookmark.antt.
-use Prim.Native.Nat.{ℕ, _+_, _≤_}
+use Prim.Native.Nat.{ℕ, _+_, _≤_, _<_}
 use mathlib.Core.Path.{_≡_}
 use mathlib.Core.Bool.{true, false}
 use mathlib.Core.Logic.{_↔_}
@@ -27,6 +27,8 @@ pub record Stands (volume : List ℕ) (mark : Bookmark) (block : Block) : Type 0
   pub keeps : BlockRules block
   pub a-table-where-due : (mark .due ≡ true) ↔ IsTable block
   pub time : TimeFollows (asOption (mark .last)) (timeOf block)
+  -- below 2^64−1, it can be counted
+  pub countable : mark .number < 18446744073709551615
   pub image-there : part volume (mark .offset) (length (image block)) ≡ image block
 
 -- Parts of a volume that stand one after the other from an offset on.
@@ -40,6 +42,8 @@ module _ (library : Library) where
     pub stands : Stands volume mark (shown volume (found .block))
     -- its variable parts are parts of the volume, at their own offsets after the fixed fields
     pub places : InARow (mark .offset + fixedLength (kindOf (shown volume (found .block)))) (parts (found .block))
+    -- its number is the bookmark's
+    pub number : found .number ≡ mark .number
     -- the next bookmark is after its image
     pub next : found .next
         ≡ markAfter mark (mark .offset + length (image (shown volume (found .block)))) (timeOf (shown volume (found .block)))

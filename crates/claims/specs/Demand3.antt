@@ -137,7 +137,7 @@ module _ (library : Library) where
     pub is-reading : ReadingOf volume reading
     pub reader : ReaderGives library volume reading end
     pub check :
-        library .check volume ≡ Verdict.Accepted (record { sequence = reading .header .sequence; blocks = length (reading .blocks); end = end })
+        library .check volume ≡ Verdict.Accepted (record { sequence = reading .header .sequence; end = end })
 
   -- A block that is read at a bookmark in a volume is read there in the later one too: same fields, same places of its parts, and the
   -- same bytes in them.
@@ -154,7 +154,9 @@ module _ (library : Library) where
     pub bytes-below : written outcome ≡ take (mark .offset) buffer ++ images blocks
     -- nothing from the last bookmark on has changed
     pub rest-as-it-was : drop (outcome .mark .offset) (outcome .buffer) ≡ drop (outcome .mark .offset) buffer
-    -- the last bookmark says whether a table is due
+    -- the last bookmark has the number of all blocks, those of the start and the accepted ones
+    pub counted : outcome .mark .number ≡ length (extended sofar blocks .blocks)
+    -- and says whether a table is due
     pub due-says : (outcome .mark .due ≡ false) ↔ NoTableDue (extended sofar blocks)
     -- unless one is, this is a volume that ends at the last bookmark
     pub accepted-volume : NoTableDue (extended sofar blocks) → AcceptedVolume (written outcome) (extended sofar blocks) (outcome .mark)

@@ -2,7 +2,7 @@
 --
 -- It is a claim about a library, by its calls; `HasReading` and `ReadingOf` are the format's. Proved of ours in
 -- proofs/Demand3Reading.antt.
-use Prim.Native.Nat.{ℕ, _≤_}
+use Prim.Native.Nat.{ℕ, suc, _≤_}
 use mathlib.Core.Path.{_≡_}
 use mathlib.Core.Logic.{_↔_}
 use mathlib.Core.List.{List, [], _∷_}
@@ -24,32 +24,40 @@ use Rattle.claims.specs.Library.{Library}
 
 module _ (library : Library) where
   -- The reader is called at a bookmark, and then at each bookmark that it returns, until it answers "end". It hands out these
-  -- blocks, in this order, and the last bookmark is the one that gets "end".
-  pub data Calls (volume : List ℕ) : Bookmark → List Block → Bookmark → Type 0 where
-    ended : {mark : Bookmark} → library .read volume mark ≡ ReadAnswer.End → Calls volume mark [] mark
+  -- blocks, in this order, with numbers that count on from the one given, and the last bookmark is the one that gets "end".
+  pub data Calls (volume : List ℕ) : (number : ℕ) → Bookmark → List Block → Bookmark → Type 0 where
+    ended : {number : ℕ} {mark : Bookmark} → library .read volume mark ≡ ReadAnswer.End → Calls volume number mark [] mark
     handed :
-        {mark end : Bookmark} {found : Found} {blocks : List Block}
+        {number : ℕ} {mark end : Bookmark} {found : Found} {blocks : List Block}
         → library .read volume mark ≡ ReadAnswer.Found found
-        → Calls volume (found .next) blocks end
-        → Calls volume mark (shown volume (found .block) ∷ blocks) end
+        → found .number ≡ number
+        → Calls volume (suc number) (found .next) blocks end
+        → Calls volume number mark (shown volume (found .block) ∷ blocks) end
 
-  -- The reader is called from the header on until "end", and this is what it gives. `end` is the end bookmark.
+  -- The reader is called from the header on until "end", and this is what it gives. `end` is the end bookmark. The first block has the
+  -- number 0, a table too, so that the number of each is that of the blocks before it.
   pub record ReaderGives (volume : List ℕ) (reading : Reading) (end : Bookmark) : Type 0 where
     pub first : Bookmark
     pub header : library .readHeader volume ≡ HeaderAnswer.Accepted (record { sequence = reading .header .sequence; next = first })
     pub id : library .fileSystemId volume ≡ reading .header .id
     pub previous : library .previousHash volume ≡ reading .header .previous
-    pub blocks : Calls volume first (reading .blocks) end
+    pub blocks : Calls volume 0 first (reading .blocks) end
+    -- the end bookmark's number is that of all blocks
+    pub counted : end .number ≡ length (reading .blocks)
 
   -- The reader is called in the same way until it refuses: it hands out these blocks before, and the last bookmark is the one at which it
   -- refuses.
-  pub data Stops (volume : List ℕ) : Bookmark → List Block → Bookmark → Refusal → Type 0 where
-    stopped : {mark : Bookmark} {refusal : Refusal} → library .read volume mark ≡ ReadAnswer.Refused refusal → Stops volume mark [] mark refusal
+  pub data Stops (volume : List ℕ) : (number : ℕ) → Bookmark → List Block → Bookmark → Refusal → Type 0 where
+    stopped :
+        {number : ℕ} {mark : Bookmark} {refusal : Refusal}
+        → library .read volume mark ≡ ReadAnswer.Refused refusal
+        → Stops volume number mark [] mark refusal
     handed-before :
-        {mark at : Bookmark} {found : Found} {blocks : List Block} {refusal : Refusal}
+        {number : ℕ} {mark at : Bookmark} {found : Found} {blocks : List Block} {refusal : Refusal}
         → library .read volume mark ≡ ReadAnswer.Found found
-        → Stops volume (found .next) blocks at refusal
-        → Stops volume mark (shown volume (found .block) ∷ blocks) at refusal
+        → found .number ≡ number
+        → Stops volume (suc number) (found .next) blocks at refusal
+        → Stops volume number mark (shown volume (found .block) ∷ blocks) at refusal
 
   -- The check accepts the volume.
   abbrev pub IsAccepted : (volume : List ℕ) → Type 0
@@ -63,11 +71,17 @@ module _ (library : Library) where
     pub one-reading : (a b : Reading) → ReadingOf volume a → ReadingOf volume b → a ≡ b
     -- the reader gives the reading, block by block, and nothing that is not the reading
     pub reader-gives-the-reading : (reading : Reading) → ReadingOf volume reading ↔ ((end : Bookmark) × ReaderGives volume reading end)
-    -- the check answers with the reading's sequence number, how many blocks it has, and the end bookmark
+    -- the check answers with the reading's sequence number and the end bookmark
     pub check-answers-for-the-reading :
         (reading : Reading) (end : Bookmark)
         → ReaderGives volume reading end
-        → library .check volume ≡ Verdict.Accepted (record { sequence = reading .header .sequence; blocks = length (reading .blocks); end = end })
+        → library .check volume ≡ Verdict.Accepted (record { sequence = reading .header .sequence; end = end })
+    -- and the number of blocks that it gives, the end bookmark's, is that of the reading
+    pub check-counts-the-blocks :
+        (reading : Reading) (answer : Accepted)
+        → ReadingOf volume reading
+        → library .check volume ≡ Verdict.Accepted answer
+        → answer .end .number ≡ length (reading .blocks)
 
   -- Where the reader is refused, and after which blocks: at the header, which begins at 0, or at a block.
   pub data RefusedAt (volume : List ℕ) : Rejected → Type 0 where
@@ -78,7 +92,7 @@ module _ (library : Library) where
     at-a-block :
         {header : HeaderRead} {blocks : List Block} {at : Bookmark} {refusal : Refusal}
         → library .readHeader volume ≡ HeaderAnswer.Accepted header
-        → Stops volume (header .next) blocks at refusal
+        → Stops volume 0 (header .next) blocks at refusal
         → RefusedAt volume (record { refusal = refusal; offset = at .offset; blocks = length blocks })
 
   -- What is claimed of every volume, however long: the check refuses it exactly as the reader does, with its number, where it

@@ -45,7 +45,7 @@ module _ (library : Library) where
         (header : HeaderRead) (blocks : List Block) (at : Bookmark) (refusal : Refusal)
         → length volume ≤ 65536
         → library .readHeader volume ≡ HeaderAnswer.Accepted header
-        → Stops library volume (header .next) blocks at refusal
+        → Stops library volume 0 (header .next) blocks at refusal
         → IsListing volume (headingLine ++ (linesOf 80 blocks ++ refusedLine (refusal .number) (at .offset)))
     -- a volume that is too long to be listed
     of-a-longer-volume : 65536 < length volume → IsListing volume (headingLine ++ refusedLine 1 0)

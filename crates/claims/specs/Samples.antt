@@ -81,7 +81,7 @@ withFile file = volumeOf (record { header = first; blocks = payload ∷ inode fi
 
 -- the bookmark after V's data block
 abbrev pub afterV : Bookmark
-afterV = record { offset = 104; due = false; last = At 1 }
+afterV = record { offset = 104; due = false; last = At 1; number = 1 }
 
 -- the length table: one entry, 104
 abbrev pub lengths : List ℕ
@@ -113,7 +113,8 @@ Holds (readGives file) =
     × (readAnswer (withFile file) afterV
     ≡ ReadAnswer.Found (record {
       block = blockAt (withFile file) 104;
-      next = record { offset = length (withFile file); due = false; last = At 2 };
+      number = 1;
+      next = record { offset = length (withFile file); due = false; last = At 2; number = 2 };
     }))
 Holds (readRefuses file number) = readAnswer (withFile file) afterV ≡ ReadAnswer.Refused (refusalOf number)
 Holds (keptLengthIs file len) = keptLength (extentAt (restAt (withFile file) 104) 0) ≡ len

@@ -115,16 +115,20 @@ storesNothing =
 
 -- a reader that is right in the first block and repeats it for the rest
 abbrev pub firstBlock : (volume : List ℕ) → ReadAnswer → ReadAnswer
-firstBlock volume (read.Found found) = read.Found (record { block = blockAt volume 80; next = found .next })
+firstBlock volume (read.Found found) = read.Found (record { block = blockAt volume 80; number = found .number; next = found .next })
 firstBlock volume read.End = read.End
 firstBlock volume (read.Refused refusal) = read.Refused refusal
 
 abbrev pub repeatsFirst : Library
 repeatsFirst = reading (λ volume mark. firstBlock volume (ours .read volume mark))
 
+-- a bookmark with another number
+abbrev pub numbered : (number : ℕ) → Bookmark → Bookmark
+numbered number mark = record { offset = mark .offset; due = mark .due; last = mark .last; number = number }
+
 -- a check that invents its number of blocks
 abbrev pub sevenOf : Verdict → Verdict
-sevenOf (verdict.Accepted a) = verdict.Accepted (record { sequence = a .sequence; blocks = 7; end = a .end })
+sevenOf (verdict.Accepted a) = verdict.Accepted (record { sequence = a .sequence; end = numbered 7 (a .end) })
 sevenOf (verdict.Refused r) = verdict.Refused r
 
 abbrev pub inventsBlocks : Library
@@ -168,7 +172,7 @@ emptyPart (block.Rename b) = block.Rename b
 emptyPart (block.Table b) = block.Table (record { count = b .count; links = record { offset = b .links .offset; len = 0 } })
 
 abbrev pub withoutLength : ReadAnswer → ReadAnswer
-withoutLength (read.Found found) = read.Found (record { block = emptyPart (found .block); next = found .next })
+withoutLength (read.Found found) = read.Found (record { block = emptyPart (found .block); number = found .number; next = found .next })
 withoutLength read.End = read.End
 withoutLength (read.Refused refusal) = read.Refused refusal
 
@@ -177,7 +181,7 @@ handsOutNoLinks = reading (λ volume mark. withoutLength (ours .read volume mark
 
 -- bookmarks that say after every append that a table is due
 abbrev pub dueAfter : WriteAnswer → WriteAnswer
-dueAfter (write.Next mark) = write.Next (record { offset = mark .offset; due = true; last = mark .last })
+dueAfter (write.Next mark) = write.Next (record { offset = mark .offset; due = true; last = mark .last; number = mark .number })
 dueAfter (write.Refused refusal) = write.Refused refusal
 
 abbrev pub alwaysDue : Library
@@ -205,7 +209,7 @@ refusesSameTime = reading (λ volume mark. greaterOnly volume mark (ours .read v
 
 -- a writer that does not look at the last time, and so accepts a lower one
 abbrev pub timeless : Bookmark → Bookmark
-timeless mark = record { offset = mark .offset; due = mark .due; last = Never }
+timeless mark = record { offset = mark .offset; due = mark .due; last = Never; number = mark .number }
 
 abbrev pub acceptsLowerTime : Library
 acceptsLowerTime =

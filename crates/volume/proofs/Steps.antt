@@ -1,6 +1,6 @@
 -- What one reading at a bookmark answers, and why. A block takes the reader further in the volume. Assumes nothing.
-use Prim.Native.Nat.{ℕ, _≤_, _<_}
-use mathlib.Core.Path.{_≡_, refl}
+use Prim.Native.Nat.{ℕ, suc, _≤_, _<_}
+use mathlib.Core.Path.{_≡_, refl, sym, ap}
 use mathlib.Core.Bool.{Bool, true, false, cond}
 use mathlib.Core.List.{List}
 use native.Mathlib.Omega.{arith}
@@ -52,6 +52,22 @@ module _ (volume : List ℕ) (mark : Bookmark) where
   pub found-read : isEnd volume mark ≡ false → readFault volume mark ≡ 0 → Handed (foundAt volume mark) ≡ readAnswer volume mark
   unfolding readAnswer
   found-read e f = rw (e, eq-eqb (readFault volume mark) 0 f)
+
+-- a block that is handed out is the one that stands there
+pub found-there : (volume : List ℕ) (mark : Bookmark) (found : Found) → readAnswer volume mark ≡ Handed found → foundAt volume mark ≡ found
+found-there volume mark found e = go (answers volume mark) e
+  where
+    go : {a : ReadAnswer} → Answers volume mark a → a ≡ Handed found → foundAt volume mark ≡ found
+    go (ends p) q = let z : _≡_ {A = ℕ} 0 1 = cc in absurd (omega arith)
+    go (finds p f) q = cc
+    go (refuses p f) q = let z : _≡_ {A = ℕ} 0 1 = cc in absurd (omega arith)
+
+-- it has the bookmark's number, and the next bookmark has one more
+pub read-counts : (volume : List ℕ) (mark : Bookmark) (found : Found) → readAnswer volume mark ≡ Handed found
+    → (found .number ≡ mark .number) × (found .next .number ≡ suc (mark .number))
+read-counts volume mark found e =
+    let here = found-there volume mark found e in
+    (sym (ap (λ (f : Found). f .number) here), sym (ap (λ (f : Found). f .next .number) here))
 
 -- where no check is at fault, the next bookmark lies further on, and within the volume
 pub sound-further : (volume : List ℕ) (mark : Bookmark) → readFault volume mark ≡ 0
