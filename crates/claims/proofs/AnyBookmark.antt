@@ -25,10 +25,10 @@ use Rattle.claims.specs.Library.{ours}
 use Rattle.claims.specs.AnyBookmark.{Stands, InARow, HandedClaim, AnyBookmark}
 
 -- a table where one is due, said by the bookmark's flag and by the kind
-due-table : (due : Bool) (block : Block) → due ≡ isTable block → (due ≡ true) ↔ IsTable block
+pub due-table : (due : Bool) (block : Block) → due ≡ isTable block → (due ≡ true) ↔ IsTable block
 due-table due block e = (λ d. table-iff block .0 (sym e ∙ d), λ t. e ∙ table-iff block .1 t)
 
-table-due : (due table : Bool) → ((due ≡ true) → table ≡ true) → ((table ≡ true) → due ≡ true) → due ≡ table
+pub table-due : (due table : Bool) → ((due ≡ true) → table ≡ true) → ((table ≡ true) → due ≡ true) → due ≡ table
 table-due true table f g = sym (f refl)
 table-due false true f g = g refl
 table-due false false f g = refl

@@ -1,6 +1,6 @@
 -- Demand 3 on reading holds: a volume's reading, the reader's calls and the check are each got from the others. Assumes nothing.
 use Prim.Native.Nat.{ℕ, _+_, _≤_}
-use mathlib.Core.Path.{_≡_, sym, ap, ap₂, _∙_, subst}
+use mathlib.Core.Path.{_≡_, refl, sym, ap, ap₂, _∙_, subst}
 use mathlib.Core.List.{List, _++_}
 use native.Mathlib.Nat.{zero-add}
 use native.Mathlib.Omega.{arith}
@@ -39,8 +39,8 @@ header-given volume given = go (header-answers volume)
     go (rejects f) e = let z : _≡_ {A = ℕ} 0 1 = cc in absurd (omega arith)
 
 -- so the reader begins at the first bookmark
-pub first-given : (volume : List ℕ) (given : HeaderRead) → headerAnswer volume ≡ head.Accepted given → firstMark (sequenceOf volume) ≡ given .next
-first-given volume given e = ap (λ (a : HeaderRead). a .next) (header-given volume given e .1)
+pub first-given : (volume : List ℕ) (given : HeaderRead) → headerAnswer volume ≡ head.Accepted given → firstMark (given .sequence) ≡ given .next
+first-given volume given e = subst (λ (a : HeaderRead). firstMark (a .sequence) ≡ a .next) (header-given volume given e .1) refl
 
 -- what the reader gives is the header that stands there, and the blocks of the calls from the bookmark after it
 pub record Given (volume : List ℕ) (reading : Reading) (end : Bookmark) : Type 0 where

@@ -6,6 +6,7 @@ pub mod Demand3Reading
 pub mod Sofar
 pub mod Appends
 pub mod AnyBookmark
+pub mod LastNumber
 pub mod Starts
 pub mod Afresh
 pub mod Demand3
@@ -21,6 +22,7 @@ pub mod Tried
 pub mod WrongReaders
 pub mod WrongWriters
 pub mod WrongTimes
+pub mod WrongNumbers
 pub mod WrongLookups
 pub mod WrongListing
 pub mod Wrong

@@ -3,6 +3,7 @@ use Rattle.claims.specs.Wrong.{WrongAreShutOut}
 use Rattle.claims.proofs.WrongReaders.{refuses-all, repeats-first, invents-blocks, invents-blocks-before-faults, hands-out-no-links}
 use Rattle.claims.proofs.WrongWriters.{stores-nothing, always-due}
 use Rattle.claims.proofs.WrongTimes.{refuses-same-time, accepts-lower-time}
+use Rattle.claims.proofs.WrongNumbers.{numbers-from-one, counts-no-table, counts-no-append}
 use Rattle.claims.proofs.WrongListing.{invents-listed-blocks}
 use Rattle.claims.proofs.WrongLookups.{holes-only, one-place-only, holes-where-refused}
 
@@ -22,4 +23,7 @@ wrong-are-shut-out =
       always-due = always-due;
       refuses-same-time = refuses-same-time;
       accepts-lower-time = accepts-lower-time;
+      numbers-from-one = numbers-from-one;
+      counts-no-table = counts-no-table;
+      counts-no-append = counts-no-append;
     }

@@ -1,9 +1,9 @@
 -- Libraries that are wrong, each in one way, and that a claim is false of. The first are the empty programs that a claim has to shut
--- out: they answer, but nothing comes of it. The next are right wherever a claim used to look, and wrong beside it. The last two go by
--- another rule for times.
+-- out: they answer, but nothing comes of it. The next are right wherever a claim used to look, and wrong beside it. Two go by another
+-- rule for times, and the last three count blocks in another way.
 --
 -- What a wrong library answers is what ours does, but for the calls named. Proved in proofs/Wrong.antt.
-use Prim.Native.Nat.{ℕ}
+use Prim.Native.Nat.{ℕ, suc}
 use mathlib.Core.Bool.{Bool, true, false, cond}
 use mathlib.Core.Option.{Option, none, some}
 use mathlib.Core.List.{List, [], _++_}
@@ -34,6 +34,7 @@ use Rattle.lookup.specs.declared.RunsAnswer.the-variants as runs
 use Rattle.listing.specs.Listing.{headingLine, endLine}
 use Rattle.listing.specs.declared.ListAnswer.the-variants as list
 use Rattle.claims.specs.Library.{Library, ours}
+use Rattle.claims.specs.LastNumber.{numbered}
 use Rattle.claims.specs.Demand2.{Demand2}
 use Rattle.claims.specs.Demand3.{Demand3}
 use Rattle.claims.specs.Listed.{Listed}
@@ -121,10 +122,6 @@ firstBlock volume (read.Refused refusal) = read.Refused refusal
 
 abbrev pub repeatsFirst : Library
 repeatsFirst = reading (λ volume mark. firstBlock volume (ours .read volume mark))
-
--- a bookmark with another number
-abbrev pub numbered : (number : ℕ) → Bookmark → Bookmark
-numbered number mark = record { offset = mark .offset; due = mark .due; last = mark .last; number = number }
 
 -- a check that invents its number of blocks
 abbrev pub sevenOf : Verdict → Verdict
@@ -216,6 +213,38 @@ acceptsLowerTime =
     answering (ours .read) (ours .check) (ours .headerBuffer) (λ room mark request. ours .append room (timeless mark) request)
     (λ buffer mark request. ours .appendBuffer buffer (timeless mark) request) (ours .position) (ours .listRoom)
 
+-- Wrong about numbers.
+
+-- a reader that numbers the blocks from 1
+abbrev pub oneHigher : ReadAnswer → ReadAnswer
+oneHigher (read.Found found) = read.Found (record { block = found .block; number = suc (found .number); next = found .next })
+oneHigher read.End = read.End
+oneHigher (read.Refused refusal) = read.Refused refusal
+
+abbrev pub numbersFromOne : Library
+numbersFromOne = reading (λ volume mark. oneHigher (ours .read volume mark))
+
+-- a reader that does not count a table
+abbrev pub sameAfterTable : Bookmark → ReadAnswer → ReadAnswer
+sameAfterTable mark (read.Found found) =
+    read.Found
+    (record { block = found .block; number = found .number; next = cond (mark .due) (numbered (mark .number) (found .next)) (found .next) })
+sameAfterTable mark read.End = read.End
+sameAfterTable mark (read.Refused refusal) = read.Refused refusal
+
+abbrev pub countsNoTable : Library
+countsNoTable = reading (λ volume mark. sameAfterTable mark (ours .read volume mark))
+
+-- appends that do not count
+abbrev pub notCounted : Bookmark → WriteAnswer → WriteAnswer
+notCounted mark (write.Next next) = write.Next (numbered (mark .number) next)
+notCounted mark (write.Refused refusal) = write.Refused refusal
+
+abbrev pub countsNoAppend : Library
+countsNoAppend =
+    answering (ours .read) (ours .check) (ours .headerBuffer) (λ room mark request. notCounted mark (ours .append room mark request))
+    (ours .appendBuffer) (ours .position) (ours .listRoom)
+
 -- No claim holds of them.
 pub record WrongAreShutOut : Type 0 where
   pub refuses-all : Demand3 refusesAll → ⊥
@@ -231,3 +260,6 @@ pub record WrongAreShutOut : Type 0 where
   pub always-due : Demand3 alwaysDue → ⊥
   pub refuses-same-time : Demand3 refusesSameTime → ⊥
   pub accepts-lower-time : Demand3 acceptsLowerTime → ⊥
+  pub numbers-from-one : Demand3 numbersFromOne → ⊥
+  pub counts-no-table : Demand3 countsNoTable → ⊥
+  pub counts-no-append : Demand3 countsNoAppend → ⊥
