@@ -55,7 +55,7 @@ from-other : (end : Bool) (fault : ℕ) (zero : Bool) → eqb fault 0 ≡ zero �
 from-other true fault zero e untimely one other = refl
 from-other false fault true e true one other = rw e refl
 from-other false fault true e false one other = rw e refl
-from-other false fault false e untimely one other = rw (e, e)
+from-other false fault false e untimely one other = rw (e, e) refl
 
 read-last : (volume : List ℕ) (mark : Bookmark) (number : ℕ) → number < lastNumber
     → readAnswer volume (numbered lastNumber mark) ≡ uncounted (readAnswer volume (numbered number mark))
