@@ -19,7 +19,6 @@ use Rattle.volume.specs.Reading.{readAnswer}
 use Rattle.request.specs.Asking.{Sized}
 use Rattle.volume.specs.declared.Bookmark.{Bookmark}
 use Rattle.volume.specs.declared.Found.{Found}
-use Rattle.volume.specs.declared.ReadAnswer.{ReadAnswer}
 use Rattle.volume.specs.declared.ReadAnswer.the-variants as read
 use Rattle.volume.specs.declared.WriteAnswer.{WriteAnswer}
 use Rattle.volume.proofs.Steps.{foundAt, found-there, read-further}

@@ -1,5 +1,5 @@
 -- At the last number reading is refused after every other check, and an append right after 8. Assumes nothing.
-use Prim.Native.Nat.{ℕ, suc, _≤_, _<_}
+use Prim.Native.Nat.{ℕ, suc, _<_}
 use mathlib.Core.Path.{_≡_, refl, sym, ap, _∙_}
 use mathlib.Core.Bool.{Bool, true, false, not, cond, Bool·beq}
 use mathlib.Core.List.{List}
@@ -7,8 +7,8 @@ use native.Mathlib.Nat.{suc-ne-zero}
 use native.Mathlib.Omega.{arith}
 use lib.Dec.{ltb, eqb, eqb·suc-zero}
 use lib.ListN.{length}
-use borrow.Author.Tests.{le-leb, lt-leb, le-ltb, ltb-false, eqb-true, eq-eqb}
-use Rattle.checks.specs.Checks.{check, firstFault, hit, miss}
+use borrow.Author.Tests.{le-leb, lt-leb, le-ltb, ltb-false}
+use Rattle.checks.specs.Checks.{firstFault, hit, miss}
 use Rattle.checks.proofs.Laws.{firstFault-append, decided, stopped}
 use Rattle.refusal.specs.Refusal.{refusalOf}
 use Rattle.format.specs.Blocks.{Block}

@@ -16,10 +16,9 @@ use Rattle.volume.specs.declared.Bookmark.{Bookmark}
 use Rattle.volume.specs.declared.Found.{Found}
 use Rattle.volume.specs.declared.ReadAnswer.{ReadAnswer}
 use Rattle.volume.specs.declared.ReadAnswer.the-variants as read
-use Rattle.volume.specs.declared.WriteAnswer.{WriteAnswer}
 use Rattle.volume.specs.declared.WriteAnswer.the-variants as write
 use Rattle.claims.specs.LastNumber.{numbered}
-use Rattle.claims.specs.Demand3Reading.{Calls, ended, handed, ReaderGives}
+use Rattle.claims.specs.Demand3Reading.{Calls, ended, handed}
 use Rattle.claims.specs.Demand3.{Judged, none-left, accepted, appends, Demand3}
 use Rattle.claims.specs.Wrong.{oneHigher, numbersFromOne, sameAfterTable, countsNoTable, countsNoAppend}
 use Rattle.claims.proofs.Demand3Reading.{first-given}

@@ -24,8 +24,8 @@ module _ (volume : List ℕ) (mark : Bookmark) (fault : ℕ) (told : fault ≡ f
   block-decides n =
       rw (firstFault-append (blockOrder volume (mark .offset) (mark .due)) _ (block-numbered volume (mark .offset) (mark .due)), ← told, ne-eqb fault 0 n)
 
-  pub bookmark-decides : (late : ℕ) → fault ≡ 0 → late ≡ firstFault (followOrder mark (timeOfBlock (blockAt volume (mark .offset))))
-      → readFault volume mark ≡ late
+  pub bookmark-decides : (follow : ℕ) → fault ≡ 0 → follow ≡ firstFault (followOrder mark (timeOfBlock (blockAt volume (mark .offset))))
+      → readFault volume mark ≡ follow
   unfolding readFault
-  bookmark-decides late z e =
+  bookmark-decides follow z e =
       rw (firstFault-append (blockOrder volume (mark .offset) (mark .due)) _ (block-numbered volume (mark .offset) (mark .due)), ← told, eq-eqb fault 0 z, ← e)

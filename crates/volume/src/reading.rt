@@ -10,10 +10,10 @@ use refusal::OVER_LIMIT;
 use refusal::TIME_LOWER;
 use refusal::refuse;
 ghost use mathlib.Core.Path.{_≡_};
-ghost use Rattle.block.specs.inner.Decoded.{timeOfBlock};
 ghost use Prim.Native.Nat.{_<_};
 ghost use Rattle.checks.specs.Checks.{firstFault};
 ghost use Rattle.format.specs.Extents.{top};
+ghost use Rattle.block.specs.inner.Decoded.{timeOfBlock};
 ghost use Rattle.volume.specs.Reading.{asOption, isEnd, mayFollow, countFull, followOrder, markAfter, readAnswer};
 
 // The most blocks that a bookmark can count.
@@ -109,7 +109,7 @@ pub(crate) fn mark_after(mark: Bookmark, end: usize, time: LastTime) -> Bookmark
 }
 
 impl Bookmark {
-    // Reads the block at the bookmark: the block with the bookmark after it, "end", or the refusal.
+    // Reads the block at the bookmark: the block with its number and the bookmark after it, "end", or the refusal.
     pub fn read(self, volume: &[u8]) -> ReadAnswer
         ensures { λ r. ⌜ r ≡ readAnswer (now (volume .entry)) self ⌝ }
     {
@@ -126,9 +126,9 @@ impl Bookmark {
         let decoded = block::decode(volume, offset);
         let found = decoded.block;
         let time = time_of(found);
-        let late = follow_fault(self, time);
-        if late != 0 {
-            return ReadAnswer::Refused(refuse(late));
+        let follow = follow_fault(self, time);
+        if follow != 0 {
+            return ReadAnswer::Refused(refuse(follow));
         }
         let next = mark_after(self, decoded.end, time);
         ReadAnswer::Found(Found {

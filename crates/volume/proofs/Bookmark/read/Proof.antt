@@ -68,10 +68,10 @@ found-at volume mark next decoded time e f g =
     (g ∙ ap₂ (λ (x : ℕ) (t : Option ℕ). markAfter mark x t) (ap (λ (d : Decoded). d .end) e) (time-at volume (mark .offset) decoded time e f))
 
 -- the first fault of the reading, once the block itself has none
-late-is : (c : tie.After-follow-fault) → let b = c .before .before .before .before in
+follow-is : (c : tie.After-follow-fault) → let b = c .before .before .before .before in
     let a = b .before .before .before .before .args in
     readFault (a .volume .now) (a .self) ≡ c .follow-fault .result
-late-is c =
+follow-is c =
     let t = c .before in
     let d = t .before in
     let b = d .before .before in
@@ -87,14 +87,14 @@ returns-3 c =
     let i = m .before .before .before .before .before in
     let a = i .before .before .before .args in
     rw (c .refuse2 .ensures)
-    (refusal-read (a .volume .now) (a .self) (m .follow-fault .result) (sym (i .before .is-end .ensures) ∙ i .if1 .left) (late-is m)
+    (refusal-read (a .volume .now) (a .self) (m .follow-fault .result) (sym (i .before .is-end .ensures) ∙ i .if1 .left) (follow-is m)
     (c .before .if3 .taken))
 
 mark-after-requires : tie.Need-mark-after-requires
 mark-after-requires c κs =
     let m = c .before in
     let a = m .before .before .before .before .before .before .before .before .args in
-    read-passed (a .volume .now) (a .self) (late-is m ∙ c .if3 .left) .counted
+    read-passed (a .volume .now) (a .self) (follow-is m ∙ c .if3 .left) .counted
 
 returns-4 : tie.Need-returns-4
 returns-4 c =
@@ -104,7 +104,7 @@ returns-4 c =
     let i = d .before .before .before in
     let a = i .before .before .before .args in
     ap Answer (found-at (a .volume .now) (a .self) (c .mark-after .result) (d .decode .result) (t .time-of .result) (d .decode .ensures) (t .time-of .ensures) (c .mark-after .ensures))
-    ∙ found-read (a .volume .now) (a .self) (sym (i .before .is-end .ensures) ∙ i .if1 .left) (late-is m ∙ c .before .if3 .left)
+    ∙ found-read (a .volume .now) (a .self) (sym (i .before .is-end .ensures) ∙ i .if1 .left) (follow-is m ∙ c .before .if3 .left)
 
 pub read-spec : {M : Type 1} → statement M
 read-spec =
