@@ -5,6 +5,11 @@
  * of 0 means that nothing is refused; docs/REFUSALS.md says what the others mean. Beside a refusal every other value is 0,
  * except the offset and the number of blocks that the check of a whole volume hands out.
  *
+ * Reading and writing go from bookmark to bookmark. The `number` of a bookmark says how many blocks stand before it, and so is the
+ * number of the block that is read or appended there: the first one behind a header, a link table too, is block 0. A number that
+ * was made up is taken as it is. At 2^64 - 1 one more block cannot be counted: the next reading or append is refused with 9. The
+ * end of a volume is still answered there.
+ *
  * What is lent for writing, the list of hdrfs_runs and the buffer of a writing call, must not overlap any other slice of the same
  * call. Nothing checks this: what a call answers is fixed only where it holds.
  *
@@ -28,7 +33,8 @@ enum { HDRFS_HOLE = 0, HDRFS_STORED = 1, HDRFS_PAST_END = 2 };
 typedef struct {
     uint64_t refusal;  /* 0: accepted */
     uint64_t sequence; /* the sequence number */
-    uint64_t blocks;   /* blocks after the header that were accepted, the link table included */
+    uint64_t blocks;   /* blocks after the header that were accepted, the link table included: the end bookmark's number, or
+                        * that of the block at fault; 0 where the header is at fault */
     uint64_t offset;   /* where the volume ends, or where the header or block at fault begins */
     uint64_t timed;    /* 1: the end bookmark has a last time, and `time` is it */
     uint64_t time;
@@ -83,7 +89,7 @@ hdrfs_run_count hdrfs_runs(const uint8_t *volume, size_t volume_len, uint64_t of
 typedef struct {
     uint64_t refusal;
     uint64_t sequence;
-    uint64_t next;     /* the bookmark after the header: its offset, and 1 where a link table is due there */
+    uint64_t next;     /* the bookmark after the header: its offset, and 1 where a link table is due there; its number is 0 */
     uint64_t due;
     uint64_t id;       /* where the file system ID begins in the volume, 16 bytes */
     uint64_t previous; /* where the hash of the previous volume begins, 32 bytes */
@@ -94,12 +100,15 @@ hdrfs_heading hdrfs_header(const uint8_t *volume, size_t volume_len);
 /* One block. What a kind of block does not have is 0. */
 typedef struct {
     uint64_t refusal;
-    uint64_t end;   /* 1: the bookmark stands at the end of the volume, and there is no block */
-    uint64_t id;    /* 1 inode, 2 link, 3 unlink, 4 xattr, 5 removed xattr, 6 data, 7 rename, 8 link table */
-    uint64_t next;  /* the bookmark after the block: its offset, whether a table is due, its last time if `timed` is 1 */
+    uint64_t end;         /* 1: the bookmark stands at the end of the volume, and there is no block */
+    uint64_t id;          /* 1 inode, 2 link, 3 unlink, 4 xattr, 5 removed xattr, 6 data, 7 rename, 8 link table */
+    uint64_t number;      /* the block's own number: that of the bookmark at which it was read */
+    uint64_t next;        /* the bookmark after the block: its offset, whether a table is due, its last time if `timed` is 1, and
+                           * its number, one more than the block's */
     uint64_t due;
     uint64_t timed;
     uint64_t last;
+    uint64_t next_number;
     uint64_t time;   /* the block's time; a link table has none */
     uint64_t inode;  /* inode, xattr, removed xattr */
     uint64_t child;  /* link, unlink */
@@ -120,7 +129,8 @@ typedef struct {
 } hdrfs_block;
 
 /* The block at a bookmark: `due` is 0 where no link table is due; `timed` is 0 where there is no last time. */
-hdrfs_block hdrfs_read(const uint8_t *volume, size_t volume_len, uint64_t offset, uint64_t due, uint64_t timed, uint64_t time);
+hdrfs_block hdrfs_read(const uint8_t *volume, size_t volume_len, uint64_t offset, uint64_t due, uint64_t timed, uint64_t time,
+                       uint64_t number);
 
 /* ---- The links of a table, one after the other: the link that begins `at` bytes into the links, which are the table's
  * first variable part. Begin at 0 and go on at `next`, `count` times. */
@@ -165,14 +175,15 @@ hdrfs_source hdrfs_fetch(const uint8_t *first, size_t first_len, const uint8_t *
 /* ---- Writing: a header at the beginning of a buffer, and then block by block, each time with the bookmark last handed out.
  * `buf` must not overlap the other slices. Bytes that a call does not write keep their values, and so do all on refusal. */
 
-/* The bookmark after what was written: its offset, whether a table is due, its last time if `timed` is 1. The next block may have
- * that time or a higher one; at a lower time it is refused with 14. */
+/* The bookmark after what was written: its offset, whether a table is due, its last time if `timed` is 1, its number. The next
+ * block may have that time or a higher one; at a lower time it is refused with 14. */
 typedef struct {
     uint64_t refusal; /* 17: the buffer has too little room */
     uint64_t next;
     uint64_t due;
     uint64_t timed;
     uint64_t last;
+    uint64_t number;  /* 0 after a header */
 } hdrfs_written;
 
 /* A header has 80 bytes. `id` has 16 and `previous`, the hash of the previous volume, 32. */
@@ -181,27 +192,30 @@ hdrfs_written hdrfs_write_header(uint8_t *buf, size_t buf_len, const uint8_t *id
 
 /* `rest`: a symbolic link's target, a regular file's extents; nothing for other kinds of files. */
 hdrfs_written hdrfs_append_inode(uint8_t *buf, size_t buf_len, uint64_t offset, uint64_t due, uint64_t timed, uint64_t last,
-                                 uint64_t inode, uint64_t time, uint16_t mode, uint16_t uid, uint16_t gid,
+                                 uint64_t number, uint64_t inode, uint64_t time, uint16_t mode, uint16_t uid, uint16_t gid,
                                  uint64_t atime, uint64_t mtime, uint64_t ctime, uint64_t btime, uint64_t size,
                                  const uint8_t *rest, size_t rest_len);
 hdrfs_written hdrfs_append_link(uint8_t *buf, size_t buf_len, uint64_t offset, uint64_t due, uint64_t timed, uint64_t last,
-                                uint64_t time, uint64_t child, uint64_t parent, const uint8_t *name, size_t name_len);
+                                uint64_t number, uint64_t time, uint64_t child, uint64_t parent,
+                                const uint8_t *name, size_t name_len);
 hdrfs_written hdrfs_append_unlink(uint8_t *buf, size_t buf_len, uint64_t offset, uint64_t due, uint64_t timed, uint64_t last,
-                                  uint64_t time, uint64_t child, uint64_t parent, const uint8_t *name, size_t name_len);
+                                  uint64_t number, uint64_t time, uint64_t child, uint64_t parent,
+                                const uint8_t *name, size_t name_len);
 hdrfs_written hdrfs_append_xattr(uint8_t *buf, size_t buf_len, uint64_t offset, uint64_t due, uint64_t timed, uint64_t last,
-                                 uint64_t time, uint64_t inode, const uint8_t *name, size_t name_len,
+                                 uint64_t number, uint64_t time, uint64_t inode, const uint8_t *name, size_t name_len,
                                  const uint8_t *value, size_t value_len);
 hdrfs_written hdrfs_append_removed_xattr(uint8_t *buf, size_t buf_len, uint64_t offset, uint64_t due, uint64_t timed,
-                                         uint64_t last, uint64_t time, uint64_t inode, const uint8_t *name, size_t name_len);
+                                         uint64_t last, uint64_t number, uint64_t time, uint64_t inode,
+                                         const uint8_t *name, size_t name_len);
 hdrfs_written hdrfs_append_data(uint8_t *buf, size_t buf_len, uint64_t offset, uint64_t due, uint64_t timed, uint64_t last,
-                                uint64_t time, const uint8_t *payload, size_t payload_len);
+                                uint64_t number, uint64_t time, const uint8_t *payload, size_t payload_len);
 /* `old_path` and `new_path` are the path before and the path after. */
 hdrfs_written hdrfs_append_rename(uint8_t *buf, size_t buf_len, uint64_t offset, uint64_t due, uint64_t timed, uint64_t last,
-                                  uint64_t time, const uint8_t *old_path, size_t old_path_len,
+                                  uint64_t number, uint64_t time, const uint8_t *old_path, size_t old_path_len,
                                   const uint8_t *new_path, size_t new_path_len);
 /* `links`: for each link 8 bytes of child, 8 of parent, 2 of the name's length, lowest byte first, and the name. */
 hdrfs_written hdrfs_append_table(uint8_t *buf, size_t buf_len, uint64_t offset, uint64_t due, uint64_t timed, uint64_t last,
-                                 uint64_t count, const uint8_t *links, size_t links_len);
+                                 uint64_t number, uint64_t count, const uint8_t *links, size_t links_len);
 
 #ifdef __cplusplus
 }

@@ -1,6 +1,6 @@
 /* Calls every function of hdrfs.h on two sound volumes, on no bytes at all, and on numbers from the edges, and prints the
  * numbers that come back, a line for each call, in the order of the struct; and writes the second volume anew, and others whose
- * blocks have equal and lower times. calls.expected has what it must print.
+ * blocks have equal and lower times, or cannot be counted. calls.expected has what it must print.
  *
  * The two volumes are the samples v.vol and all_kinds.vol.
  */
@@ -46,28 +46,30 @@ HAS_FIELDS(hdrfs_heading, 6);
 IS_NUMBER(hdrfs_block, refusal, 0);
 IS_NUMBER(hdrfs_block, end, 1);
 IS_NUMBER(hdrfs_block, id, 2);
-IS_NUMBER(hdrfs_block, next, 3);
-IS_NUMBER(hdrfs_block, due, 4);
-IS_NUMBER(hdrfs_block, timed, 5);
-IS_NUMBER(hdrfs_block, last, 6);
-IS_NUMBER(hdrfs_block, time, 7);
-IS_NUMBER(hdrfs_block, inode, 8);
-IS_NUMBER(hdrfs_block, child, 9);
-IS_NUMBER(hdrfs_block, parent, 10);
-IS_NUMBER(hdrfs_block, mode, 11);
-IS_NUMBER(hdrfs_block, uid, 12);
-IS_NUMBER(hdrfs_block, gid, 13);
-IS_NUMBER(hdrfs_block, atime, 14);
-IS_NUMBER(hdrfs_block, mtime, 15);
-IS_NUMBER(hdrfs_block, ctime, 16);
-IS_NUMBER(hdrfs_block, btime, 17);
-IS_NUMBER(hdrfs_block, size, 18);
-IS_NUMBER(hdrfs_block, count, 19);
-IS_NUMBER(hdrfs_block, part, 20);
-IS_NUMBER(hdrfs_block, part_len, 21);
-IS_NUMBER(hdrfs_block, second, 22);
-IS_NUMBER(hdrfs_block, second_len, 23);
-HAS_FIELDS(hdrfs_block, 24);
+IS_NUMBER(hdrfs_block, number, 3);
+IS_NUMBER(hdrfs_block, next, 4);
+IS_NUMBER(hdrfs_block, due, 5);
+IS_NUMBER(hdrfs_block, timed, 6);
+IS_NUMBER(hdrfs_block, last, 7);
+IS_NUMBER(hdrfs_block, next_number, 8);
+IS_NUMBER(hdrfs_block, time, 9);
+IS_NUMBER(hdrfs_block, inode, 10);
+IS_NUMBER(hdrfs_block, child, 11);
+IS_NUMBER(hdrfs_block, parent, 12);
+IS_NUMBER(hdrfs_block, mode, 13);
+IS_NUMBER(hdrfs_block, uid, 14);
+IS_NUMBER(hdrfs_block, gid, 15);
+IS_NUMBER(hdrfs_block, atime, 16);
+IS_NUMBER(hdrfs_block, mtime, 17);
+IS_NUMBER(hdrfs_block, ctime, 18);
+IS_NUMBER(hdrfs_block, btime, 19);
+IS_NUMBER(hdrfs_block, size, 20);
+IS_NUMBER(hdrfs_block, count, 21);
+IS_NUMBER(hdrfs_block, part, 22);
+IS_NUMBER(hdrfs_block, part_len, 23);
+IS_NUMBER(hdrfs_block, second, 24);
+IS_NUMBER(hdrfs_block, second_len, 25);
+HAS_FIELDS(hdrfs_block, 26);
 
 IS_NUMBER(hdrfs_link_entry, missing, 0);
 IS_NUMBER(hdrfs_link_entry, child, 1);
@@ -96,7 +98,8 @@ IS_NUMBER(hdrfs_written, next, 1);
 IS_NUMBER(hdrfs_written, due, 2);
 IS_NUMBER(hdrfs_written, timed, 3);
 IS_NUMBER(hdrfs_written, last, 4);
-HAS_FIELDS(hdrfs_written, 5);
+IS_NUMBER(hdrfs_written, number, 5);
+HAS_FIELDS(hdrfs_written, 6);
 
 /* A slice is a pointer and a length that fit the registers of a call. */
 _Static_assert(sizeof(size_t) == 8 && sizeof(void *) == 8, "a length or an address has not 8 bytes");
@@ -266,10 +269,10 @@ static void walk(const uint8_t *volume, size_t volume_len)
 {
     hdrfs_heading heading = hdrfs_header(volume, volume_len);
     show("heading", &heading, sizeof heading);
-    hdrfs_block block = hdrfs_read(volume, volume_len, heading.next, heading.due, 0, 0);
+    hdrfs_block block = hdrfs_read(volume, volume_len, heading.next, heading.due, 0, 0, 0);
     show("block", &block, sizeof block);
     while (block.refusal == 0 && block.end == 0) {
-        block = hdrfs_read(volume, volume_len, block.next, block.due, block.timed, block.last);
+        block = hdrfs_read(volume, volume_len, block.next, block.due, block.timed, block.last, block.next_number);
         show("block", &block, sizeof block);
     }
 }
@@ -280,16 +283,16 @@ static void read_blocks(void)
     walk(ALL, sizeof ALL);
     walk(NULL, 0);
     SHOW(hdrfs_heading, hdrfs_header(V, 79));
-    SHOW(hdrfs_block, hdrfs_read(V, sizeof V, 80, 2, 0, 0));
-    SHOW(hdrfs_block, hdrfs_read(V, sizeof V, 80, 0, 0, 7));
-    SHOW(hdrfs_block, hdrfs_read(V, sizeof V, 80, 0, 1, 6));
-    SHOW(hdrfs_block, hdrfs_read(V, sizeof V, 80, 0, 2, 7));
-    SHOW(hdrfs_block, hdrfs_read(V, sizeof V, 80, 0, 2, 8));
-    SHOW(hdrfs_block, hdrfs_read(V, sizeof V, 79, 0, 0, 0));
-    SHOW(hdrfs_block, hdrfs_read(V, sizeof V, TOP, 0, 0, 0));
-    SHOW(hdrfs_block, hdrfs_read(V, sizeof V, sizeof V, 1, 0, 0));
-    SHOW(hdrfs_block, hdrfs_read(ALL, sizeof ALL, TABLE_AT, TOP, TOP, TOP));
-    SHOW(hdrfs_block, hdrfs_read(NULL, 0, 80, 0, 0, 0));
+    SHOW(hdrfs_block, hdrfs_read(V, sizeof V, 80, 2, 0, 0, 0));
+    SHOW(hdrfs_block, hdrfs_read(V, sizeof V, 80, 0, 0, 7, 0));
+    SHOW(hdrfs_block, hdrfs_read(V, sizeof V, 80, 0, 1, 6, 0));
+    SHOW(hdrfs_block, hdrfs_read(V, sizeof V, 80, 0, 2, 7, 0));
+    SHOW(hdrfs_block, hdrfs_read(V, sizeof V, 80, 0, 2, 8, 0));
+    SHOW(hdrfs_block, hdrfs_read(V, sizeof V, 79, 0, 0, 0, 0));
+    SHOW(hdrfs_block, hdrfs_read(V, sizeof V, TOP, 0, 0, 0, 0));
+    SHOW(hdrfs_block, hdrfs_read(V, sizeof V, sizeof V, 1, 0, 0, 0));
+    SHOW(hdrfs_block, hdrfs_read(ALL, sizeof ALL, TABLE_AT, TOP, TOP, TOP, 0));
+    SHOW(hdrfs_block, hdrfs_read(NULL, 0, 80, 0, 0, 0, 0));
 }
 
 static void read_links(void)
@@ -338,7 +341,7 @@ static hdrfs_written mark;
         mark = call;                                                                                        \
         show(#call, &mark, sizeof mark);                                                                    \
     } while (0)
-#define AT_MARK buf, sizeof buf, mark.next, mark.due, mark.timed, mark.last
+#define AT_MARK buf, sizeof buf, mark.next, mark.due, mark.timed, mark.last, mark.number
 
 /* A text without its last byte, which is 0, as a slice. */
 #define TEXT(text) (const uint8_t *)(text), sizeof(text) - 1
@@ -371,30 +374,30 @@ static void write_refused(void)
     SHOW(hdrfs_written, hdrfs_write_header(buf, sizeof buf, ALL + 18, 16, 0, ALL + 44, 32));
     SHOW(hdrfs_written, hdrfs_write_header(buf, 79, ALL + 18, 16, 1, ALL + 44, 32));
     SHOW(hdrfs_written, hdrfs_write_header(NULL, 0, NULL, 0, 0, NULL, 0));
-    SHOW(hdrfs_written, hdrfs_append_inode(buf, sizeof buf, 80, 0, 0, 0, TOP, TOP, 16877, 65535, 65535, 0, 0, 0, 0, 69, NULL, 0));
-    SHOW(hdrfs_written, hdrfs_append_inode(buf, sizeof buf, 80, 0, 0, 0, 7, 1, 65535, 0, 0, 0, 0, 0, 0, 0, TEXT("gauge")));
-    SHOW(hdrfs_written, hdrfs_append_link(buf, sizeof buf, 80, 1, 0, 0, 4, 8, 1, TEXT("gauge")));
-    SHOW(hdrfs_written, hdrfs_append_unlink(buf, sizeof buf, 80, 0, 0, 0, 4, 8, 1, TEXT("\xff")));
-    SHOW(hdrfs_written, hdrfs_append_xattr(buf, sizeof buf, 80, 0, 0, 0, 6, 7, TEXT("\xff"), NULL, 0));
-    SHOW(hdrfs_written, hdrfs_append_removed_xattr(buf, sizeof buf, 80, 0, 0, 0, 6, 7, ALL, 256));
-    SHOW(hdrfs_written, hdrfs_append_data(buf, sizeof buf, 79, 0, 0, 0, 8, NULL, 0));
-    SHOW(hdrfs_written, hdrfs_append_data(buf, sizeof buf, 80, 0, 2, 9, 8, NULL, 0));
-    SHOW(hdrfs_written, hdrfs_append_data(buf, sizeof buf, 640, 0, 0, 8, 8, NULL, 0));
-    SHOW(hdrfs_written, hdrfs_append_data(buf, sizeof buf, TOP, 0, 0, 0, 8, NULL, 0));
-    SHOW(hdrfs_written, hdrfs_append_data(NULL, 0, 80, 0, 0, 0, 8, NULL, 0));
-    SHOW(hdrfs_written, hdrfs_append_rename(buf, sizeof buf, 80, 0, 0, 0, 9, TEXT("old"), TEXT("\xff")));
-    SHOW(hdrfs_written, hdrfs_append_table(buf, sizeof buf, 80, 0, 0, 0, 2, ALL + LINKS_AT, 44));
-    SHOW(hdrfs_written, hdrfs_append_table(buf, sizeof buf, 80, TOP, 0, 0, 1, ALL + LINKS_AT, 44));
-    SHOW(hdrfs_written, hdrfs_append_table(buf, sizeof buf, 80, 1, 0, 0, TOP, NULL, 0));
+    SHOW(hdrfs_written, hdrfs_append_inode(buf, sizeof buf, 80, 0, 0, 0, 0, TOP, TOP, 16877, 65535, 65535, 0, 0, 0, 0, 69, NULL, 0));
+    SHOW(hdrfs_written, hdrfs_append_inode(buf, sizeof buf, 80, 0, 0, 0, 0, 7, 1, 65535, 0, 0, 0, 0, 0, 0, 0, TEXT("gauge")));
+    SHOW(hdrfs_written, hdrfs_append_link(buf, sizeof buf, 80, 1, 0, 0, 0, 4, 8, 1, TEXT("gauge")));
+    SHOW(hdrfs_written, hdrfs_append_unlink(buf, sizeof buf, 80, 0, 0, 0, 0, 4, 8, 1, TEXT("\xff")));
+    SHOW(hdrfs_written, hdrfs_append_xattr(buf, sizeof buf, 80, 0, 0, 0, 0, 6, 7, TEXT("\xff"), NULL, 0));
+    SHOW(hdrfs_written, hdrfs_append_removed_xattr(buf, sizeof buf, 80, 0, 0, 0, 0, 6, 7, ALL, 256));
+    SHOW(hdrfs_written, hdrfs_append_data(buf, sizeof buf, 79, 0, 0, 0, 0, 8, NULL, 0));
+    SHOW(hdrfs_written, hdrfs_append_data(buf, sizeof buf, 80, 0, 2, 9, 0, 8, NULL, 0));
+    SHOW(hdrfs_written, hdrfs_append_data(buf, sizeof buf, 640, 0, 0, 8, 0, 8, NULL, 0));
+    SHOW(hdrfs_written, hdrfs_append_data(buf, sizeof buf, TOP, 0, 0, 0, 0, 8, NULL, 0));
+    SHOW(hdrfs_written, hdrfs_append_data(NULL, 0, 80, 0, 0, 0, 0, 8, NULL, 0));
+    SHOW(hdrfs_written, hdrfs_append_rename(buf, sizeof buf, 80, 0, 0, 0, 0, 9, TEXT("old"), TEXT("\xff")));
+    SHOW(hdrfs_written, hdrfs_append_table(buf, sizeof buf, 80, 0, 0, 0, 0, 2, ALL + LINKS_AT, 44));
+    SHOW(hdrfs_written, hdrfs_append_table(buf, sizeof buf, 80, TOP, 0, 0, 0, 1, ALL + LINKS_AT, 44));
+    SHOW(hdrfs_written, hdrfs_append_table(buf, sizeof buf, 80, 1, 0, 0, 0, TOP, NULL, 0));
     printf("same bytes: %d\n", memcmp(buf, before, sizeof buf) == 0);
 }
 
 /* The last times 0 and 2^64 - 1, and a buffer that is filled to its end. */
 static void write_edges(void)
 {
-    SHOW(hdrfs_written, hdrfs_append_table(buf, sizeof buf, 80, TOP, TOP, TOP, 0, NULL, 0));
-    SHOW(hdrfs_written, hdrfs_append_data(buf, sizeof buf, 80, 0, 0, TOP, 0, NULL, 0));
-    SHOW(hdrfs_written, hdrfs_append_data(buf, sizeof buf, sizeof buf - 21, 0, 1, TOP - 1, TOP, NULL, 0));
+    SHOW(hdrfs_written, hdrfs_append_table(buf, sizeof buf, 80, TOP, TOP, TOP, 0, 0, NULL, 0));
+    SHOW(hdrfs_written, hdrfs_append_data(buf, sizeof buf, 80, 0, 0, TOP, 0, 0, NULL, 0));
+    SHOW(hdrfs_written, hdrfs_append_data(buf, sizeof buf, sizeof buf - 21, 0, 1, TOP - 1, 0, TOP, NULL, 0));
 }
 
 /* Two data blocks in volume 0, of 24 bytes each. The second is written as if no time stood before it, so that any two times can
@@ -403,7 +406,7 @@ static void check_times(uint64_t first, uint64_t second)
 {
     mark = hdrfs_write_header(buf, sizeof buf, V + 18, 16, 0, V + 44, 32);
     mark = hdrfs_append_data(AT_MARK, first, TEXT("1,5"));
-    mark = hdrfs_append_data(buf, sizeof buf, mark.next, 0, 0, 0, second, TEXT("1,5"));
+    mark = hdrfs_append_data(buf, sizeof buf, mark.next, 0, 0, 0, 0, second, TEXT("1,5"));
     printf("times %" PRIu64 " and %" PRIu64 ", ", first, second);
     SHOW(hdrfs_checked, hdrfs_check(buf, mark.next));
 }
@@ -439,15 +442,49 @@ static void times_behind_a_table(void)
     WRITE(hdrfs_write_header(buf, sizeof buf, V + 18, 16, 1, V + 44, 32));
     WRITE(hdrfs_append_table(AT_MARK, 0, NULL, 0));
     SHOW(hdrfs_written, hdrfs_append_data(AT_MARK, 0, NULL, 0));
-    SHOW(hdrfs_written, hdrfs_append_data(buf, sizeof buf, 93, 0, 1, 0, 0, NULL, 0));
+    SHOW(hdrfs_written, hdrfs_append_data(buf, sizeof buf, 93, 0, 1, 0, 0, 0, NULL, 0));
     SHOW(hdrfs_checked, hdrfs_check(buf, 114));
-    SHOW(hdrfs_block, hdrfs_read(buf, 114, 93, 0, 0, 0));
-    SHOW(hdrfs_block, hdrfs_read(buf, 114, 93, 0, 1, 0));
+    SHOW(hdrfs_block, hdrfs_read(buf, 114, 93, 0, 0, 0, 0));
+    SHOW(hdrfs_block, hdrfs_read(buf, 114, 93, 0, 1, 0, 0));
     WRITE(hdrfs_append_data(AT_MARK, 7, NULL, 0));
-    SHOW(hdrfs_block, hdrfs_read(buf, 114, 80, 1, 1, 7));
-    SHOW(hdrfs_block, hdrfs_read(buf, 114, 93, 0, 1, 7));
-    SHOW(hdrfs_block, hdrfs_read(buf, 114, 80, 1, 1, 8));
-    SHOW(hdrfs_block, hdrfs_read(buf, 114, 93, 0, 1, 8));
+    SHOW(hdrfs_block, hdrfs_read(buf, 114, 80, 1, 1, 7, 0));
+    SHOW(hdrfs_block, hdrfs_read(buf, 114, 93, 0, 1, 7, 0));
+    SHOW(hdrfs_block, hdrfs_read(buf, 114, 80, 1, 1, 8, 0));
+    SHOW(hdrfs_block, hdrfs_read(buf, 114, 93, 0, 1, 8, 0));
+}
+
+/* The highest number of blocks before a bookmark: one more cannot be counted, and the end of a volume is still the end. All other
+ * checks of a block come first. */
+static void read_at_the_top(void)
+{
+    uint8_t damaged[sizeof V];
+    memcpy(damaged, V, sizeof V);
+    damaged[sizeof V - 1] ^= 1;
+    SHOW(hdrfs_block, hdrfs_read(V, sizeof V, 80, 0, 0, 0, TOP));
+    SHOW(hdrfs_block, hdrfs_read(V, sizeof V, 80, 0, 0, 0, TOP - 1));
+    SHOW(hdrfs_block, hdrfs_read(V, sizeof V, 104, 0, 1, 7, TOP));
+    SHOW(hdrfs_block, hdrfs_read(V, sizeof V, 80, 0, 1, 8, TOP));
+    SHOW(hdrfs_block, hdrfs_read(damaged, sizeof V, 80, 0, 1, 8, TOP));
+    SHOW(hdrfs_block, hdrfs_read(V, sizeof V, 80, 1, 0, 0, TOP));
+    SHOW(hdrfs_block, hdrfs_read(V, sizeof V, 79, 0, 0, 0, TOP));
+    SHOW(hdrfs_block, hdrfs_read(V, sizeof V, 105, 0, 0, 0, TOP));
+}
+
+/* The same in writing: the last block that can be counted, and then none. Only a block in the wrong place is refused before that,
+ * and the buffer keeps its bytes. */
+static void write_at_the_top(void)
+{
+    uint8_t before[sizeof buf];
+    memcpy(buf, V, sizeof V);
+    WRITE(hdrfs_append_data(buf, sizeof buf, 104, 0, 1, 7, TOP - 1, 7, TEXT("1,5")));
+    memcpy(before, buf, sizeof buf);
+    SHOW(hdrfs_written, hdrfs_append_data(AT_MARK, 7, TEXT("1,5")));
+    SHOW(hdrfs_block, hdrfs_read(buf, 128, mark.next, mark.due, mark.timed, mark.last, mark.number));
+    SHOW(hdrfs_written, hdrfs_append_data(buf, sizeof buf, 104, 0, 1, 7, TOP, 7, TEXT("1,5")));
+    SHOW(hdrfs_written, hdrfs_append_data(buf, sizeof buf, 104, 1, 1, 7, TOP, 7, TEXT("1,5")));
+    SHOW(hdrfs_written, hdrfs_append_link(buf, sizeof buf, 104, 0, 1, 7, TOP, 7, 8, 1, TEXT("\xff")));
+    SHOW(hdrfs_written, hdrfs_append_table(buf, sizeof buf, 104, 1, 1, 7, TOP, 1, ALL + LINKS_AT, 44));
+    printf("same bytes: %d\n", memcmp(buf, before, sizeof buf) == 0);
 }
 
 int main(void)
@@ -465,5 +502,7 @@ int main(void)
     check_two_times();
     write_at_one_time();
     times_behind_a_table();
+    read_at_the_top();
+    write_at_the_top();
     return 0;
 }
