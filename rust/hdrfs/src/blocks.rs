@@ -29,8 +29,9 @@ pub(crate) fn read(volume: &[u8], mark: Bookmark) -> sys::Block {
         due,
         timed,
         last,
+        number,
     } = mark.numbers();
-    sys::read(volume, offset, due, timed, last)
+    sys::read(volume, offset, due, timed, last, number)
 }
 
 /// A block of a volume.
@@ -41,13 +42,16 @@ pub(crate) fn read(volume: &[u8], mark: Bookmark) -> sys::Block {
 ///
 /// let bytes = std::fs::read("v.vol")?;
 /// let block = Volume::blocks(&bytes).next().unwrap()?;
-/// assert_eq!((block.offset, block.id, block.len()), (80, 6, 24));
+/// assert_eq!((block.number, block.offset, block.id, block.len()), (0, 80, 6, 24));
 /// assert_eq!(block.content, Content::Data { payload: b"1,5" });
 /// # Ok::<(), Box<dyn std::error::Error>>(())
 /// ```
 #[non_exhaustive]
 #[derive(Clone, Copy, Debug, PartialEq, Eq)]
 pub struct Block<'a> {
+    /// Its number: how many blocks stand between the header and it, a link table included. Where
+    /// the walk began at a made-up bookmark, it is counted on from that.
+    pub number: u64,
     /// Where it begins in the volume.
     pub offset: u64,
     /// The number of its kind, 1 to 8.
@@ -210,7 +214,8 @@ impl<'a> Blocks<'a> {
     ///
     /// let bytes = std::fs::read("all_kinds.vol")?;
     /// let table = Volume::blocks(&bytes).next().unwrap()?;
-    /// assert_eq!(Blocks::at(&bytes, table.next).count(), 9);
+    /// let numbers = Blocks::at(&bytes, table.next).map(|block| block.unwrap().number);
+    /// assert!(numbers.eq(1..10));
     /// # Ok::<(), Box<dyn std::error::Error>>(())
     /// ```
     #[must_use]
@@ -245,13 +250,14 @@ impl<'a> Blocks<'a> {
     /// The block at a bookmark, or nothing at the end.
     fn read(&self, mark: Bookmark) -> Result<Option<Block<'a>>, Refusal> {
         let block = read(self.volume, mark);
-        Refusal::unless_accepted(&block, mark.offset)?;
+        Refusal::unless_accepted(&block, mark.offset, Some(mark.number))?;
         if block.end != 0 {
             return Ok(None);
         }
         let content = content(self.volume, &block);
         let has_time = !matches!(content, Content::LinkTable(_));
         Ok(Some(Block {
+            number: block.number,
             offset: mark.offset,
             id: block.id,
             time: has_time.then_some(block.time),

@@ -29,7 +29,7 @@ pub fn fetch<'a>(
         Refusal::NOT_THERE => offset.0,
         _ => 0,
     };
-    Refusal::unless_accepted(&source, fault)?;
+    Refusal::unless_accepted(&source, fault, None)?;
     let volume = if source.which == 0 { first } else { second };
     Ok(blocks::part(volume, offset.0, len))
 }

@@ -2,7 +2,7 @@
 
 use std::fmt;
 
-use crate::{sys, Lengths, Refusal, Runs};
+use crate::{sys, Block, Lengths, Refusal, Runs};
 
 /// A position in a file. It is a type of its own so that it cannot stand where an offset in a
 /// volume is meant.
@@ -98,19 +98,22 @@ pub struct File<'a> {
     volume: &'a [u8],
     offset: u64,
     lengths: &'a Lengths,
-    /// Where refusals say that the block is.
+    /// Where refusals say that the block is, and its number if it is known.
     told: u64,
+    block: Option<u64>,
 }
 
 impl<'a> File<'a> {
-    /// The file whose inode block is at `offset` in a volume.
+    /// The file whose inode block is at `offset` in a volume. Which block that is an offset does not
+    /// tell, and so refusals do not either; see [`File::of_block`].
     ///
     /// ```
     /// use hdrfs::{File, Lengths, Logical};
     ///
     /// let lengths = Lengths::new();
     /// let nowhere = File::new(&[], 80, &lengths);
-    /// assert_eq!(nowhere.position(Logical(0)).unwrap_err().number, 2);
+    /// let refusal = nowhere.position(Logical(0)).unwrap_err();
+    /// assert_eq!((refusal.number, refusal.offset, refusal.block), (2, 80, None));
     /// ```
     #[must_use]
     pub fn new(volume: &'a [u8], offset: u64, lengths: &'a Lengths) -> File<'a> {
@@ -119,13 +122,34 @@ impl<'a> File<'a> {
             offset,
             lengths,
             told: offset,
+            block: None,
         }
     }
 
-    /// The same file, where the block is a copy of one at another offset, which refusals have.
-    pub(crate) fn told_at(self, offset: u64) -> File<'a> {
+    /// The file whose inode block was found in a walk over the volume.
+    ///
+    /// ```
+    /// use hdrfs::{File, Lengths, Logical, Volume};
+    /// # std::env::set_current_dir("../../crates/samples/data")?;
+    ///
+    /// let bytes = std::fs::read("all_kinds.vol")?;
+    /// let block = Volume::blocks(&bytes).nth(1).unwrap()?;
+    /// let no_lengths = Lengths::new();
+    /// let refusal = File::of_block(&bytes, &block, &no_lengths).position(Logical(0)).unwrap_err();
+    /// assert_eq!((refusal.number, refusal.offset, refusal.block), (16, 137, Some(1)));
+    /// # Ok::<(), Box<dyn std::error::Error>>(())
+    /// ```
+    #[must_use]
+    pub fn of_block(volume: &'a [u8], block: &Block<'_>, lengths: &'a Lengths) -> File<'a> {
+        File::new(volume, block.offset, lengths).told_at(block.offset, block.number)
+    }
+
+    /// The same file, where refusals say that its block is at an offset and has a number: those of
+    /// the block that this one is, or is a copy of.
+    pub(crate) fn told_at(self, offset: u64, block: u64) -> File<'a> {
         File {
             told: offset,
+            block: Some(block),
             ..self
         }
     }
@@ -145,7 +169,7 @@ impl<'a> File<'a> {
     pub fn position(&self, position: Logical) -> Result<Place, Refusal> {
         let lengths = self.lengths.as_bytes();
         let place = sys::lookup(self.volume, self.offset, lengths, position.0);
-        Refusal::unless_accepted(&place, self.told)?;
+        Refusal::unless_accepted(&place, self.told, self.block)?;
         Ok(match place.kind {
             sys::HOLE => Place::Hole,
             sys::STORED => Place::Stored(Stored {
@@ -196,7 +220,7 @@ impl<'a> File<'a> {
     pub(crate) fn ask(&self, from: u64, to: u64, out: &mut [u64]) -> Result<usize, Refusal> {
         let lengths = self.lengths.as_bytes();
         let answer = sys::runs(self.volume, self.offset, lengths, from, to, out);
-        Refusal::unless_accepted(&answer, self.told)?;
+        Refusal::unless_accepted(&answer, self.told, self.block)?;
         Ok(answer.count as usize)
     }
 }

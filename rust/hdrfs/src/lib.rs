@@ -30,7 +30,7 @@
 //!     let block = block?;
 //!     let Content::Inode(inode) = block.content else { continue };
 //!     if !inode.is_regular() { continue }
-//!     for run in File::new(&second, block.offset, &lengths).all_runs() {
+//!     for run in File::of_block(&second, &block, &lengths).all_runs() {
 //!         let run = run?;
 //!         if let Some(place) = run.stored {
 //!             let bytes = fetch(&first, &second, place.volume, place.offset, run.len)?;

@@ -5,17 +5,24 @@ use std::fmt;
 
 use crate::sys;
 
-/// A refusal: its number, and where the header or block at fault begins.
+/// A refusal: its number, and which header or block is at fault and where it begins.
 ///
 /// The numbers mean the same in every call. They are the constants below, with what
 /// `docs/REFUSALS.md` says of each; it also says what to do about it. More may come.
 ///
 /// ```
 /// use hdrfs::{Refusal, Volume};
+/// # std::env::set_current_dir("../../crates/samples/data")?;
 ///
 /// let refusal = Volume::check(b"").unwrap_err().refusal;
 /// assert_eq!(refusal, Refusal::new(Refusal::ENDS_EARLY, 0));
 /// assert_eq!(refusal.to_string(), "refused 2 at 0: bytes end too early");
+///
+/// let bytes = std::fs::read("lower_time.vol")?;
+/// let refusal = Volume::check(&bytes).unwrap_err().refusal;
+/// assert_eq!(refusal, Refusal::new(Refusal::TIME_LOWER, 104).with_block(Some(1)));
+/// assert_eq!(refusal.to_string(), "refused 14 at 104 (block 1): time lower than the last one");
+/// # Ok::<(), std::io::Error>(())
 /// ```
 #[must_use]
 #[non_exhaustive]
@@ -26,6 +33,11 @@ pub struct Refusal {
     /// Where in the volume: 0 for the header, else where the block begins. A refusal of
     /// [`fetch`](crate::fetch) has the offset that was asked for, or 0 where a header is at fault.
     pub offset: u64,
+    /// The number of the block at fault, counted from 0 behind the header; of a
+    /// [`Writer`](crate::Writer), of the block that was not written. There is none where the header
+    /// is at fault or no block is meant, nor where nothing but the offset of the block was given,
+    /// as to [`File::new`](crate::File::new).
+    pub block: Option<u64>,
 }
 
 /// The numbers, each with its meaning and with a few words for a line of text.
@@ -80,7 +92,8 @@ numbers! {
     WRONG_PLACE = 8, "block in the wrong place";
 
     /// over a limit: a regular file with more than 1,024 extents (58,368 bytes of them), more than
-    /// 4,096 links or volume lengths, length bytes that are no multiple of 8; in writing, a name,
+    /// 4,096 links or volume lengths, length bytes that are no multiple of 8, a bookmark whose
+    /// number of blocks is 2^64-1, at which one more block can't be counted; in writing, a name,
     /// value or path that its length field cannot hold
     OVER_LIMIT = 9, "over a limit";
 
@@ -115,21 +128,40 @@ numbers! {
 }
 
 impl Refusal {
-    /// The refusal with a number, about the header or block at an offset.
+    /// The refusal with a number, at an offset: about the header, or about no block in particular.
     ///
     /// ```
-    /// let refusal = hdrfs::Refusal::new(5, 80);
-    /// assert_eq!((refusal.number, refusal.offset), (5, 80));
+    /// let refusal = hdrfs::Refusal::new(3, 0);
+    /// assert_eq!((refusal.number, refusal.offset, refusal.block), (3, 0, None));
     /// ```
     pub const fn new(number: u64, offset: u64) -> Refusal {
-        Refusal { number, offset }
+        let block = None;
+        Refusal {
+            number,
+            offset,
+            block,
+        }
     }
 
-    /// Nothing where the number of an answer is 0, the mark of an accepted call; else an error.
-    pub(crate) fn unless_accepted(answer: &impl Answer, offset: u64) -> Result<(), Refusal> {
+    /// The same refusal about the block with a number.
+    ///
+    /// ```
+    /// assert_eq!(hdrfs::Refusal::new(5, 4711).with_block(Some(17)).block, Some(17));
+    /// ```
+    pub const fn with_block(self, block: Option<u64>) -> Refusal {
+        Refusal { block, ..self }
+    }
+
+    /// Nothing where the number of an answer is 0, the mark of an accepted call; else an error about
+    /// the header or block at an offset, with the block's number if it is known.
+    pub(crate) fn unless_accepted(
+        answer: &impl Answer,
+        offset: u64,
+        block: Option<u64>,
+    ) -> Result<(), Refusal> {
         match answer.refusal() {
             0 => Ok(()),
-            number => Err(Refusal::new(number, offset)),
+            number => Err(Refusal::new(number, offset).with_block(block)),
         }
     }
 }
@@ -154,8 +186,12 @@ answers! { Block Checked Heading Place RunCount Source Written }
 
 impl fmt::Display for Refusal {
     fn fmt(&self, f: &mut fmt::Formatter<'_>) -> fmt::Result {
-        let Refusal { number, offset } = self;
-        write!(f, "refused {number} at {offset}: {}", self.words())
+        let Refusal { number, offset, .. } = self;
+        write!(f, "refused {number} at {offset}")?;
+        if let Some(block) = self.block {
+            write!(f, " (block {block})")?;
+        }
+        write!(f, ": {}", self.words())
     }
 }
 
@@ -182,15 +218,17 @@ impl Error for Refusal {}
 #[non_exhaustive]
 #[derive(Clone, Copy, Debug, PartialEq, Eq, Hash)]
 pub struct Rejected {
-    /// Why, and where the header or block at fault begins.
+    /// Why, and which header or block is at fault.
     pub refusal: Refusal,
-    /// How many blocks after the header were accepted before it, the link table included.
+    /// How many blocks after the header were accepted before it, the link table included: as many
+    /// as the number of the block at fault, and none before the header.
     pub blocks: u64,
 }
 
 impl Rejected {
-    /// A refusal after so many accepted blocks.
-    pub(crate) const fn new(refusal: Refusal, blocks: u64) -> Rejected {
+    /// A whole volume refused: the blocks before the one at fault were accepted.
+    pub(crate) fn new(refusal: Refusal) -> Rejected {
+        let blocks = refusal.block.unwrap_or(0);
         Rejected { refusal, blocks }
     }
 }

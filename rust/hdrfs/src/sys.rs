@@ -114,6 +114,7 @@ mod raw {
             due: u64,
             timed: u64,
             time: u64,
+            number: u64,
         ) -> Block;
         pub fn hdrfs_link(links: Bytes, links_len: usize, at: u64) -> LinkEntry;
         pub fn hdrfs_extent(list: Bytes, list_len: usize, index: u64) -> ExtentEntry;
@@ -142,6 +143,7 @@ mod raw {
             due: u64,
             timed: u64,
             last: u64,
+            number: u64,
             inode: u64,
             time: u64,
             mode: u16,
@@ -162,6 +164,7 @@ mod raw {
             due: u64,
             timed: u64,
             last: u64,
+            number: u64,
             time: u64,
             child: u64,
             parent: u64,
@@ -175,6 +178,7 @@ mod raw {
             due: u64,
             timed: u64,
             last: u64,
+            number: u64,
             time: u64,
             child: u64,
             parent: u64,
@@ -188,6 +192,7 @@ mod raw {
             due: u64,
             timed: u64,
             last: u64,
+            number: u64,
             time: u64,
             inode: u64,
             name: Bytes,
@@ -202,6 +207,7 @@ mod raw {
             due: u64,
             timed: u64,
             last: u64,
+            number: u64,
             time: u64,
             inode: u64,
             name: Bytes,
@@ -214,6 +220,7 @@ mod raw {
             due: u64,
             timed: u64,
             last: u64,
+            number: u64,
             time: u64,
             payload: Bytes,
             payload_len: usize,
@@ -225,6 +232,7 @@ mod raw {
             due: u64,
             timed: u64,
             last: u64,
+            number: u64,
             time: u64,
             old_path: Bytes,
             old_path_len: usize,
@@ -238,6 +246,7 @@ mod raw {
             due: u64,
             timed: u64,
             last: u64,
+            number: u64,
             count: u64,
             links: Bytes,
             links_len: usize,
@@ -420,18 +429,20 @@ pub fn runs(
 }
 
 /// The block at a bookmark: `due` is 0 where no link table is due, `timed` is 0 where there is no
-/// last time.
+/// last time, and `number` says how many blocks stand before it.
 ///
 /// ```
 /// # std::env::set_current_dir("../../crates/samples/data")?;
-/// let block = hdrfs::sys::read(&std::fs::read("v.vol")?, 80, 0, 0, 0);
+/// let block = hdrfs::sys::read(&std::fs::read("v.vol")?, 80, 0, 0, 0, 5);
 /// assert_eq!((block.id, block.time, block.part, block.part_len), (6, 7, 97, 3));
+/// assert_eq!((block.number, block.next_number), (5, 6));
 /// # Ok::<(), std::io::Error>(())
 /// ```
 #[must_use]
-pub fn read(volume: &[u8], offset: u64, due: u64, timed: u64, time: u64) -> Block {
+pub fn read(volume: &[u8], offset: u64, due: u64, timed: u64, time: u64, number: u64) -> Block {
+    let (bytes, len) = (volume.as_ptr(), volume.len());
     // SAFETY: see above.
-    unsafe { raw::hdrfs_read(volume.as_ptr(), volume.len(), offset, due, timed, time) }
+    unsafe { raw::hdrfs_read(bytes, len, offset, due, timed, time, number) }
 }
 
 /// The link that begins `at` bytes into the links of a table.

@@ -31,23 +31,24 @@ impl Volume {
     ///
     /// let bytes = std::fs::read("wrong_block_sum.vol")?;
     /// let rejected = Volume::check(&bytes).unwrap_err();
-    /// assert_eq!(rejected.refusal.to_string(), "refused 5 at 80: checksum wrong");
+    /// assert_eq!(rejected.refusal.to_string(), "refused 5 at 80 (block 0): checksum wrong");
     /// assert_eq!(rejected.blocks, 0);
     /// # Ok::<(), std::io::Error>(())
     /// ```
     pub fn check(volume: &[u8]) -> Result<Checked<'_>, Rejected> {
         let answer = sys::check(volume);
-        Refusal::unless_accepted(&answer, answer.offset)
-            .map_err(|refusal| Rejected::new(refusal, answer.blocks))?;
+        // The header stands at 0, and no block does.
+        let block = (answer.offset != 0).then_some(answer.blocks);
+        Refusal::unless_accepted(&answer, answer.offset, block).map_err(Rejected::new)?;
         Ok(Checked {
             volume,
             sequence: answer.sequence,
-            blocks: answer.blocks,
             end: Bookmark::from_numbers(Numbers {
                 offset: answer.offset,
                 due: 0,
                 timed: answer.timed,
                 last: answer.time,
+                number: answer.blocks,
             }),
         })
     }
@@ -66,7 +67,7 @@ impl Volume {
     /// ```
     pub fn header(volume: &[u8]) -> Result<Heading, Refusal> {
         let answer = sys::header(volume);
-        Refusal::unless_accepted(&answer, 0)?;
+        Refusal::unless_accepted(&answer, 0, None)?;
         Ok(Heading {
             id: header_part(volume, answer.id),
             sequence: answer.sequence,
@@ -83,8 +84,9 @@ impl Volume {
     ///
     /// let bytes = std::fs::read("lower_time.vol")?;
     /// let mut blocks = Volume::blocks(&bytes);
-    /// assert_eq!(blocks.next().unwrap()?.offset, 80);
-    /// assert_eq!(blocks.next().unwrap().unwrap_err().number, 14);
+    /// assert_eq!(blocks.next().unwrap()?.number, 0);
+    /// let refusal = blocks.next().unwrap().unwrap_err();
+    /// assert_eq!((refusal.number, refusal.block), (14, Some(1)));
     /// assert!(blocks.next().is_none());
     /// # Ok::<(), Box<dyn std::error::Error>>(())
     /// ```
@@ -136,7 +138,6 @@ fn header_part<const LEN: usize>(volume: &[u8], at: u64) -> [u8; LEN] {
 pub struct Checked<'a> {
     volume: &'a [u8],
     sequence: u64,
-    blocks: u64,
     end: Bookmark,
 }
 
@@ -177,16 +178,17 @@ impl<'a> Checked<'a> {
     /// ```
     #[must_use]
     pub fn block_count(&self) -> u64 {
-        self.blocks
+        self.end.number
     }
 
-    /// The bookmark at the end: where a further block would go, and the last time.
+    /// The bookmark at the end: where a further block would go, the last time, and the number of
+    /// blocks.
     ///
     /// ```
     /// # std::env::set_current_dir("../../crates/samples/data")?;
     /// let bytes = std::fs::read("v.vol")?;
     /// let end = hdrfs::Volume::check(&bytes)?.end();
-    /// assert_eq!((end.offset, end.last_time), (104, Some(7)));
+    /// assert_eq!((end.offset, end.last_time, end.number), (104, Some(7), 1));
     /// # Ok::<(), Box<dyn std::error::Error>>(())
     /// ```
     #[must_use]
@@ -232,7 +234,6 @@ impl fmt::Debug for Checked<'_> {
         let mut shown = f.debug_struct("Checked");
         shown.field("volume_len", &self.volume.len());
         shown.field("sequence", &self.sequence);
-        shown.field("blocks", &self.blocks);
         shown.field("end", &self.end).finish()
     }
 }

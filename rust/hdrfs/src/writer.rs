@@ -32,9 +32,9 @@ macro_rules! appends {
     ($($(#[$doc:meta])* $name:ident($($argument:ident: $type:ty),*) calls $call:ident($($value:expr),*);)*) => {$(
         $(#[$doc])*
         pub fn $name(&mut self, $($argument: $type),*) -> Result<(), Refusal> {
-            let Numbers { offset, due, timed, last } = self.mark.numbers();
-            let written = sys::$call(self.buf, offset, due, timed, last, $($value),*);
-            self.mark = after(written, offset)?;
+            let Numbers { offset, due, timed, last, number } = self.mark.numbers();
+            let written = sys::$call(self.buf, offset, due, timed, last, number, $($value),*);
+            self.mark = after(written, offset, Some(number))?;
             Ok(())
         }
     )*};
@@ -59,12 +59,12 @@ impl<'a> Writer<'a> {
         sequence: u64,
         previous: &[u8; 32],
     ) -> Result<Writer<'a>, Refusal> {
-        let mark = after(sys::write_header(buf, id, sequence, previous), 0)?;
+        let mark = after(sys::write_header(buf, id, sequence, previous), 0, None)?;
         Ok(Writer { buf, mark })
     }
 
     /// Goes on at a bookmark, that of the end of a volume as a rule. What stands before it in the
-    /// buffer is not looked at.
+    /// buffer is not looked at, and its number of blocks is taken as it is.
     ///
     /// ```
     /// use hdrfs::{Volume, Writer};
@@ -86,7 +86,7 @@ impl<'a> Writer<'a> {
         }
     }
 
-    /// Where the next block will begin, and what has to come there.
+    /// Where the next block will begin, what has to come there, and how many blocks are written.
     ///
     /// ```
     /// use hdrfs::{Bookmark, Writer};
@@ -94,9 +94,10 @@ impl<'a> Writer<'a> {
     /// let mut buf = [0; 200];
     /// let mut writer = Writer::create(&mut buf, &[1; 16], 0, &[0; 32])?;
     /// writer.append_data(7, b"1,5")?;
-    /// let mark = Bookmark::at(104).with_last_time(Some(7));
+    /// let mark = Bookmark::at(104).with_last_time(Some(7)).with_number(1);
     /// assert_eq!(writer.bookmark(), mark);
-    /// assert_eq!(writer.append_data(6, b"1,6").unwrap_err().number, 14);
+    /// let refusal = writer.append_data(6, b"1,6").unwrap_err();
+    /// assert_eq!((refusal.number, refusal.block), (14, Some(1)));
     /// assert_eq!(writer.bookmark(), mark);
     /// # Ok::<(), hdrfs::Refusal>(())
     /// ```
@@ -261,14 +262,15 @@ impl<'a> Writer<'a> {
     }
 }
 
-/// The bookmark after what was written at `offset`.
-fn after(written: sys::Written, offset: u64) -> Result<Bookmark, Refusal> {
-    Refusal::unless_accepted(&written, offset)?;
+/// The bookmark after what was written at `offset`: the header, or the block with a number.
+fn after(written: sys::Written, offset: u64, block: Option<u64>) -> Result<Bookmark, Refusal> {
+    Refusal::unless_accepted(&written, offset, block)?;
     Ok(Bookmark::from_numbers(Numbers {
         offset: written.next,
         due: written.due,
         timed: written.timed,
         last: written.last,
+        number: written.number,
     }))
 }
 

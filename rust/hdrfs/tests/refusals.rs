@@ -59,8 +59,13 @@ fn no_words_stand_for_two_numbers() {
 
 #[test]
 fn a_refusal_is_an_error_with_a_line() {
-    let error: Box<dyn std::error::Error + Send + Sync> = Box::new(Refusal::new(5, 80));
-    assert_eq!(error.to_string(), "refused 5 at 80: checksum wrong");
+    let refusal = Refusal::new(5, 4711);
+    let error: Box<dyn std::error::Error + Send + Sync> = Box::new(refusal);
+    assert_eq!(error.to_string(), "refused 5 at 4711: checksum wrong");
+    assert_eq!(
+        refusal.with_block(Some(17)).to_string(),
+        "refused 5 at 4711 (block 17): checksum wrong"
+    );
     assert_eq!(
         Refusal::new(99, 0).to_string(),
         "refused 99 at 0: unknown refusal number"

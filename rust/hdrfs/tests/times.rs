@@ -17,6 +17,11 @@ fn mark(offset: u64, table_due: bool, last_time: Option<u64>) -> Bookmark {
         .with_last_time(last_time)
 }
 
+/// The bookmark behind one block more, where no table is due.
+fn after(before: Bookmark, offset: u64, last_time: Option<u64>) -> Bookmark {
+    mark(offset, false, last_time).with_number(before.number + 1)
+}
+
 /// Sequence number, number of blocks and end of an accepted volume; else the refusal's number and
 /// offset, and the number of blocks before it.
 type Verdict = Result<(u64, u64, Bookmark), (u64, u64, u64)>;
@@ -34,7 +39,8 @@ fn check(volume: &[u8]) -> Verdict {
 
 /// What is accepted ends at an offset, after a last time.
 fn accepted(sequence: u64, blocks: u64, end: u64, last: u64) -> Verdict {
-    Ok((sequence, blocks, mark(end, false, Some(last))))
+    let end = mark(end, false, Some(last)).with_number(blocks);
+    Ok((sequence, blocks, end))
 }
 
 /// Volume 0 with two data blocks.
@@ -76,9 +82,10 @@ fn a_table_leaves_the_last_time_as_it_was() {
 
     let volume = [header(1), table(&[]), data(7, b"")].concat();
     for (last, refusal) in [(6, None), (7, None), (8, Some(14))] {
-        let mut blocks = Blocks::at(&volume, mark(80, true, Some(last)));
+        let from = mark(80, true, Some(last));
+        let mut blocks = Blocks::at(&volume, from);
         let table = blocks.next().unwrap().unwrap();
-        assert_eq!(table.next, mark(93, false, Some(last)));
+        assert_eq!(table.next, after(from, 93, Some(last)));
         let behind = blocks.next().unwrap().err();
         assert_eq!(behind.map(|behind| behind.number), refusal);
     }
@@ -89,14 +96,15 @@ fn appends_at_the_end_of_a_volume() {
     let mut buf = two(7, 7);
     buf[104..].fill(0xA5);
     let before = buf.clone();
-    let end = mark(104, false, Some(7));
+    let end = mark(104, false, Some(7)).with_number(1);
     let mut writer = Writer::at(&mut buf, end);
-    assert_eq!(writer.append_data(6, b"1,5"), Err(Refusal::new(14, 104)));
+    let lower = Refusal::new(14, 104).with_block(Some(1));
+    assert_eq!(writer.append_data(6, b"1,5"), Err(lower));
     assert_eq!(writer.bookmark(), end);
     assert_eq!(buf, before);
     let mut writer = Writer::at(&mut buf, end);
     writer.append_data(7, b"1,5").unwrap();
-    assert_eq!(writer.bookmark(), mark(128, false, Some(7)));
+    assert_eq!(writer.bookmark(), after(end, 128, Some(7)));
     assert_eq!(buf, two(7, 7));
 }
 
@@ -128,7 +136,7 @@ fn append_each(from: Bookmark, time: u64) -> [u64; 7] {
         let answer = append(&mut writer, time);
         let next = writer.bookmark();
         if answer.is_ok() {
-            assert_eq!(next, mark(next.offset, false, Some(time)));
+            assert_eq!(next, after(from, next.offset, Some(time)));
             let block = Blocks::at(&buf, from).next().unwrap().unwrap();
             assert_eq!((block.time, block.next), (Some(time), next));
         } else {
@@ -198,7 +206,7 @@ fn time_0_is_a_time() {
     let volume = writer.written();
     assert_eq!(sys::check_timed(volume), 1);
     assert_eq!(sys::check_timed(&volume[..80]), 0);
-    let first = sys::read(volume, 80, 0, 0, TOP);
+    let first = sys::read(volume, 80, 0, 0, TOP, 0);
     assert_eq!((first.refusal, first.timed, first.last), (0, 1, 0));
-    assert_eq!(sys::read(volume, 80, 0, 1, 0), first);
+    assert_eq!(sys::read(volume, 80, 0, 1, 0, 0), first);
 }

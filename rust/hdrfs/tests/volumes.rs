@@ -32,7 +32,10 @@ fn compare(name: &str, volume: &[u8]) -> Result<u64, Refusal> {
     let mut fault = None;
     for block in walk.by_ref() {
         match block {
-            Ok(block) => offsets.push(block.offset),
+            Ok(block) => {
+                assert_eq!(block.number, offsets.len() as u64, "{name}");
+                offsets.push(block.offset);
+            }
             Err(refusal) => fault = Some(refusal),
         }
     }
@@ -92,19 +95,25 @@ fn check_and_walk_agree_on_damaged_samples() {
 
 #[test]
 fn refusals_say_where() {
-    let refusal = |number, offset| Err(Refusal::new(number, offset));
+    let refusal = |number, offset, block| Err(Refusal::new(number, offset).with_block(block));
     let volume = small_volume();
     assert_eq!(compare("whole", &volume), Ok(1));
-    assert_eq!(compare("empty", &[]), refusal(2, 0));
-    assert_eq!(compare("cut header", &volume[..79]), refusal(2, 0));
+    assert_eq!(compare("empty", &[]), refusal(2, 0, None));
+    assert_eq!(compare("cut header", &volume[..79]), refusal(2, 0, None));
     assert_eq!(compare("header alone", &volume[..80]), Ok(0));
-    assert_eq!(compare("cut block", &volume[..103]), refusal(2, 80));
-    assert_eq!(compare("table missing", &header(1)), refusal(2, 80));
+    assert_eq!(
+        compare("cut block", &volume[..103]),
+        refusal(2, 80, Some(0))
+    );
+    assert_eq!(
+        compare("table missing", &header(1)),
+        refusal(2, 80, Some(0))
+    );
     let mut damaged = volume.clone();
     damaged[98] = b'.';
-    assert_eq!(compare("damaged", &damaged), refusal(5, 80));
+    assert_eq!(compare("damaged", &damaged), refusal(5, 80, Some(0)));
     let lower = [volume, data(6, b"2,5")].concat();
-    assert_eq!(compare("lower time", &lower), refusal(14, 104));
+    assert_eq!(compare("lower time", &lower), refusal(14, 104, Some(1)));
 }
 
 #[test]
@@ -224,7 +233,7 @@ fn made_up_bookmarks_are_served() {
     assert_eq!(number(mark(end, true, None)), Some(Err(2)));
     assert_eq!(number(mark(u64::MAX, false, None)), Some(Err(2)));
     let table = first(mark(104, true, Some(8))).unwrap().unwrap();
-    assert_eq!(table.next, mark(117, false, Some(8)));
+    assert_eq!(table.next, mark(117, false, Some(8)).with_number(1));
 }
 
 #[test]

@@ -1,36 +1,18 @@
 //! Writing volumes: the sound samples anew, a volume that fills its buffer, and refusals.
 
+#[path = "support/anew.rs"]
+mod anew;
 mod support;
 
 use std::fs;
 use std::path::PathBuf;
 
-use hdrfs::{Block, Bookmark, Content, Link, Refusal, Volume, Writer, MAX_VOLUME_LEN};
+use anew::{append, sample};
+use hdrfs::{Bookmark, Content, Link, Refusal, Volume, Writer, MAX_VOLUME_LEN};
 use support::{small_volume, Numbers};
 
 const ID: [u8; 16] = [1; 16];
 const NO_HASH: [u8; 32] = [0; 32];
-
-/// A sample volume of the repository.
-fn sample(name: &str) -> Vec<u8> {
-    let folder = PathBuf::from(env!("CARGO_MANIFEST_DIR")).join("../../crates/samples/data");
-    fs::read(folder.join(name)).expect("the sample volume is there")
-}
-
-/// Appends a block that was read.
-fn append(writer: &mut Writer<'_>, block: &Block<'_>) -> Result<(), Refusal> {
-    let time = block.time.unwrap_or(0);
-    match block.content {
-        Content::Inode(inode) => writer.append_inode(time, &inode),
-        Content::Link(link) => writer.append_link(time, link),
-        Content::Unlink(link) => writer.append_unlink(time, link),
-        Content::Xattr { inode, name, value } => writer.append_xattr(time, inode, name, value),
-        Content::RemovedXattr { inode, name } => writer.append_removed_xattr(time, inode, name),
-        Content::Data { payload } => writer.append_data(time, payload),
-        Content::Rename { old, new } => writer.append_rename(time, old, new),
-        Content::LinkTable(table) => writer.append_table(table.len() as u64, table.bytes()),
-    }
-}
 
 /// A writer over a buffer, begun with the header of a volume.
 fn begin<'a>(buf: &'a mut [u8], volume: &[u8]) -> Writer<'a> {
@@ -46,7 +28,8 @@ fn rewrite(volume: &[u8], more: usize) {
     let mut writer = begin(&mut buf, volume);
     for block in Volume::blocks(volume) {
         let block = block.unwrap();
-        assert_eq!(writer.bookmark().offset, block.offset);
+        let mark = writer.bookmark();
+        assert_eq!((mark.offset, mark.number), (block.offset, block.number));
         append(&mut writer, &block).unwrap();
         assert_eq!(writer.bookmark(), block.next);
     }
@@ -94,7 +77,8 @@ fn too_little_room_is_refused() {
         }
         let mark = writer.bookmark();
         let refusal = append(&mut writer, &refused).unwrap_err();
-        assert_eq!((refusal.number, refusal.offset), (17, refused.offset));
+        let no_room = Refusal::new(17, refused.offset).with_block(Some(refused.number));
+        assert_eq!(refusal, no_room);
         assert_eq!(writer.bookmark(), mark);
         let end = refused.offset as usize;
         assert_eq!(buf[..end], volume[..end]);
@@ -125,10 +109,10 @@ fn blocks_are_refused_out_of_place() {
         parent: 1,
         name: "gauge",
     };
-    let out_of_place = |offset| Some(Refusal::new(8, offset));
-    assert_eq!(writer.append_link(1, link).err(), out_of_place(80));
+    let out_of_place = |offset, block| Some(Refusal::new(8, offset).with_block(Some(block)));
+    assert_eq!(writer.append_link(1, link).err(), out_of_place(80, 0));
     writer.append_table(0, b"").unwrap();
-    assert_eq!(writer.append_table(0, b"").err(), out_of_place(93));
+    assert_eq!(writer.append_table(0, b"").err(), out_of_place(93, 1));
     writer.append_link(1, link).unwrap();
     assert_eq!(Volume::check(writer.written()).unwrap().block_count(), 2);
 }

@@ -249,8 +249,9 @@ impl<'a> ArchiveFile<'a> {
     }
 
     fn file(&self) -> File<'_> {
+        let current = self.current();
         File::new(&self.block.bytes, HEADER_LEN as u64, &self.archive.lengths)
-            .told_at(self.current().offset)
+            .told_at(current.offset, current.block)
     }
 
     fn content(&self) -> Content<'_> {

@@ -18,7 +18,8 @@ const LINK_TABLE: u64 = 8;
 /// # std::env::set_current_dir("tests/gauge")?;
 /// let archive = hdrfs::Archive::open(["0.vol", "1.vol", "2.vol"])?;
 /// let inode = archive.inode(7).unwrap();
-/// assert_eq!((inode.volume, inode.offset, inode.size), (2, 210, 246));
+/// assert_eq!((inode.volume, inode.block, inode.offset), (2, 2, 210));
+/// assert_eq!(inode.size, 246);
 /// # Ok::<(), Box<dyn std::error::Error>>(())
 /// ```
 #[must_use]
@@ -29,6 +30,8 @@ pub struct CurrentInode {
     pub number: u64,
     /// The sequence number of the volume that has the block.
     pub volume: u64,
+    /// The number of the block, counted from 0 behind the header of that volume.
+    pub block: u64,
     /// Where the block begins in that volume.
     pub offset: u64,
     /// How many bytes the block has.
@@ -72,11 +75,12 @@ impl CurrentInode {
 }
 
 /// What a block says of an inode, and where it stands in its volume. There may be very many of
-/// these, so they are kept small: a volume has at most 2^24 bytes.
+/// these, so they are kept small.
 #[derive(Clone, Copy, Debug)]
 struct State {
-    offset: u32,
-    block_len: u32,
+    block: Short,
+    offset: Short,
+    block_len: Short,
     time: u64,
     mode: u16,
     uid: u16,
@@ -93,8 +97,9 @@ impl State {
         // The mode and the two behind it are two bytes wide in the volume.
         let Inode { mode, uid, gid, .. } = Inode::new(block, &[]);
         State {
-            offset: short(offset),
-            block_len: short(block.next - offset),
+            block: Short::new(block.number),
+            offset: Short::new(offset),
+            block_len: Short::new(block.next - offset),
             time: block.time,
             mode,
             uid,
@@ -108,8 +113,28 @@ impl State {
     }
 }
 
-fn short(number: u64) -> u32 {
-    u32::try_from(number).expect("a volume has at most 2^24 bytes")
+// Six numbers of eight bytes; the three short ones fill what the mode and the two behind it leave of
+// two more.
+const _: () = assert!(size_of::<State>() == 64, "an inode takes more memory");
+
+/// The number or offset of a block of a volume, or its length, in three bytes: a volume has at most
+/// 2^24 bytes, of which 80 are the header's. The highest byte comes first, so that they are ordered
+/// as the numbers are.
+#[derive(Clone, Copy, Debug, PartialEq, Eq, PartialOrd, Ord)]
+struct Short([u8; 3]);
+
+impl Short {
+    fn new(number: u64) -> Short {
+        let [0, 0, 0, 0, 0, bytes @ ..] = number.to_be_bytes() else {
+            unreachable!("{number} in a volume of at most 2^24 bytes")
+        };
+        Short(bytes)
+    }
+
+    fn get(self) -> u64 {
+        let [high, middle, low] = self.0;
+        u64::from(u32::from_be_bytes([0, high, middle, low]))
+    }
 }
 
 /// Finds the inodes and links of one volume.
@@ -212,8 +237,9 @@ impl Index {
         CurrentInode {
             number,
             volume,
-            offset: u64::from(state.offset),
-            block_len: u64::from(state.block_len),
+            block: state.block.get(),
+            offset: state.offset.get(),
+            block_len: state.block_len.get(),
             time: state.time,
             mode: state.mode,
             uid: state.uid,

@@ -131,10 +131,11 @@ impl Member {
     /// ```
     #[must_use]
     pub fn block_count(&self) -> u64 {
-        self.scanned.blocks
+        self.scanned.end.number
     }
 
-    /// The bookmark at the end: where a further block would go, and the last time.
+    /// The bookmark at the end: where a further block would go, the last time, and the number of
+    /// blocks.
     ///
     /// ```
     /// # std::env::set_current_dir("../../crates/samples/data")?;
@@ -196,7 +197,8 @@ impl Checker {
     /// ```
     /// # std::env::set_current_dir("../../crates/samples/data")?;
     /// let error = hdrfs::Checker::new().path("wrong_block_sum.vol").unwrap_err();
-    /// assert_eq!(error.to_string(), "wrong_block_sum.vol: refused 5 at 80: checksum wrong");
+    /// let words = "wrong_block_sum.vol: refused 5 at 80 (block 0): checksum wrong";
+    /// assert_eq!(error.to_string(), words);
     /// # Ok::<(), std::io::Error>(())
     /// ```
     pub fn path(&mut self, path: impl Into<PathBuf>) -> Result<Member, ArchiveError> {

@@ -7,8 +7,6 @@ use crate::{sys, Bookmark, Heading, Refusal, Rejected, Volume};
 #[derive(Clone, Copy, Debug, PartialEq, Eq)]
 pub(crate) struct Scanned {
     pub(crate) heading: Heading,
-    /// How many blocks come after the header.
-    pub(crate) blocks: u64,
     pub(crate) end: Bookmark,
 }
 
@@ -20,22 +18,15 @@ pub(crate) fn scan(
     volume: &[u8],
     mut visit: impl FnMut(u64, &sys::Block),
 ) -> Result<Scanned, Rejected> {
-    let mut blocks = 0;
-    let heading = Volume::header(volume).map_err(|refusal| Rejected::new(refusal, 0))?;
+    let heading = Volume::header(volume).map_err(Rejected::new)?;
     let mut mark = heading.next;
     loop {
         let block = read(volume, mark);
-        Refusal::unless_accepted(&block, mark.offset)
-            .map_err(|refusal| Rejected::new(refusal, blocks))?;
+        Refusal::unless_accepted(&block, mark.offset, Some(mark.number)).map_err(Rejected::new)?;
         if block.end != 0 {
-            return Ok(Scanned {
-                heading,
-                blocks,
-                end: mark,
-            });
+            return Ok(Scanned { heading, end: mark });
         }
         visit(mark.offset, &block);
-        blocks += 1;
         mark = Bookmark::after(&block);
     }
 }

@@ -14,7 +14,8 @@ pub struct Checked {
     pub refusal: u64,
     /// The sequence number.
     pub sequence: u64,
-    /// Blocks after the header that were accepted, the link table included.
+    /// Blocks after the header that were accepted, the link table included: the number of the end
+    /// bookmark, or of the block at fault.
     pub blocks: u64,
     /// Where the volume ends, or where the header or block at fault begins.
     pub offset: u64,
@@ -84,7 +85,7 @@ pub struct Heading {
 /// One block; what a kind of block does not have is 0.
 ///
 /// ```
-/// let below_the_header = hdrfs::sys::read(&[], 79, 0, 0, 0);
+/// let below_the_header = hdrfs::sys::read(&[], 79, 0, 0, 0, 0);
 /// assert_eq!(below_the_header, hdrfs::sys::Block { refusal: 8, ..Default::default() });
 /// ```
 #[repr(C)]
@@ -96,6 +97,8 @@ pub struct Block {
     pub end: u64,
     /// The kind of block, 1 to 8.
     pub id: u64,
+    /// The block's own number: that of the bookmark at which it was read.
+    pub number: u64,
     /// The bookmark after the block: its offset.
     pub next: u64,
     /// 1: a link table is due there.
@@ -104,6 +107,8 @@ pub struct Block {
     pub timed: u64,
     /// See `timed`.
     pub last: u64,
+    /// The number of that bookmark, one more than the block's.
+    pub next_number: u64,
     /// The block's own time; a link table has none.
     pub time: u64,
     /// The inode number of an inode, xattr or removed xattr.
@@ -225,4 +230,6 @@ pub struct Written {
     pub timed: u64,
     /// See `timed`.
     pub last: u64,
+    /// The number of that bookmark: 0 after a header, and one more after each block.
+    pub number: u64,
 }

@@ -5,7 +5,7 @@ use std::path::PathBuf;
 
 use super::scan;
 use crate::runs::support::Numbers;
-use crate::sys;
+use crate::{sys, Volume};
 
 /// What the library's own check answers, from a walk.
 fn checked(volume: &[u8]) -> sys::Checked {
@@ -13,7 +13,7 @@ fn checked(volume: &[u8]) -> sys::Checked {
         Ok(scanned) => sys::Checked {
             refusal: 0,
             sequence: scanned.heading.sequence,
-            blocks: scanned.blocks,
+            blocks: scanned.end.number,
             offset: scanned.end.offset,
             timed: u64::from(scanned.end.last_time.is_some()),
             time: scanned.end.last_time.unwrap_or(0),
@@ -25,6 +25,13 @@ fn checked(volume: &[u8]) -> sys::Checked {
             ..Default::default()
         },
     }
+}
+
+/// Compares the walk with the check, by their numbers and by what is said of a refused volume.
+fn compare(volume: &[u8]) {
+    assert_eq!(checked(volume), sys::check(volume));
+    let rejected = scan(volume, |_, _| ()).err();
+    assert_eq!(rejected, Volume::check(volume).err());
 }
 
 /// The sample volumes of the repository.
@@ -42,7 +49,7 @@ fn a_walk_answers_what_the_check_answers() {
     assert!(samples.len() > 40);
     let mut numbers = Numbers(0x5EED_1234_5EED_1234);
     for volume in &samples {
-        assert_eq!(checked(volume), sys::check(volume));
+        compare(volume);
         if volume.is_empty() || volume.len() > 2000 {
             continue;
         }
@@ -52,7 +59,7 @@ fn a_walk_answers_what_the_check_answers() {
             damaged[at] ^= 1 << numbers.below(8);
             let cut = numbers.below(1 + volume.len() as u64 / 4) as usize;
             damaged.truncate(volume.len() - cut * numbers.below(2) as usize);
-            assert_eq!(checked(&damaged), sys::check(&damaged));
+            compare(&damaged);
         }
     }
 }
@@ -64,11 +71,11 @@ fn every_block_is_visited_once() {
         let mut end = 80;
         let mut count = 0;
         let scanned = scan(&volume, |offset, block| {
-            assert_eq!(offset, end);
+            assert_eq!((offset, block.number), (end, count));
             end = block.next;
             count += 1;
         });
-        assert_eq!(scanned.map(|scanned| scanned.blocks), Ok(count));
+        assert_eq!(scanned.map(|scanned| scanned.end.number), Ok(count));
         assert_eq!(end, volume.len() as u64);
     }
 }
