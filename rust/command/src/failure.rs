@@ -96,23 +96,17 @@ impl Failure {
         if let Some(path) = self.path() {
             object = object.text("file", &path.to_string_lossy());
         }
-        let refused = |object: Object, refusal: &Refusal| {
-            object
-                .number("refused", refusal.number)
-                .number("offset", refusal.offset)
-                .text("words", refusal.words())
-        };
         match self {
             Failure::Volume(ArchiveError::Refused {
                 refusal, blocks, ..
             }) => blocks
                 .iter()
-                .fold(refused(object, refusal), |object, blocks| {
+                .fold(members(refusal, object), |object, blocks| {
                     object.number("blocks", *blocks)
                 }),
             Failure::Lacking {
                 refusal, missing, ..
-            } => lack::members(missing, refused(object, refusal)),
+            } => lack::members(missing, members(refusal, object)),
             Failure::Volume(
                 ArchiveError::TwoFileSystems { first, .. } | ArchiveError::Twice { first, .. },
             ) => object
@@ -132,6 +126,18 @@ impl fmt::Display for Failure {
         };
         write!(f, "{about}: {}", self.matter())
     }
+}
+
+/// A refusal for machines. The block is left out where the header is at fault, or none is meant.
+fn members(refusal: &Refusal, object: Object) -> Object {
+    let object = object
+        .number("refused", refusal.number)
+        .number("offset", refusal.offset);
+    let object = match refusal.block {
+        Some(block) => object.number("block", block),
+        None => object,
+    };
+    object.text("words", refusal.words())
 }
 
 /// The volume that an error is about; where it is about two, the one that was given later.
@@ -172,17 +178,35 @@ fn matter_of(error: &ArchiveError) -> String {
 mod tests {
     use super::*;
 
+    fn refused(refusal: Refusal, blocks: Option<u64>) -> Failure {
+        let path = PathBuf::from("a.vol");
+        Failure::Volume(ArchiveError::Refused {
+            path,
+            refusal,
+            blocks,
+        })
+    }
+
     #[test]
     fn a_refusal_is_one_line_with_words() {
-        let failure = Failure::Volume(ArchiveError::Refused {
-            path: PathBuf::from("a.vol"),
-            refusal: Refusal::new(5, 80),
-            blocks: None,
-        });
+        let failure = refused(Refusal::new(3, 0), None);
         assert_eq!(
             failure.to_string(),
-            "a.vol: refused 5 at 80: checksum wrong"
+            "a.vol: refused 3 at 0: not an HDRFS volume"
         );
         assert_eq!(failure.status().code(), 1);
+    }
+
+    /// The example of the help is what would be printed.
+    #[test]
+    fn a_refusal_says_which_block_is_at_fault() {
+        let failure = refused(Refusal::new(5, 4711).with_block(Some(17)), Some(17));
+        let line = failure.to_string();
+        assert!(crate::help::general().contains(&line), "{line}");
+        assert_eq!(
+            failure.json(),
+            "{\"file\":\"a.vol\",\"refused\":5,\"offset\":4711,\"block\":17,\
+             \"words\":\"checksum wrong\",\"blocks\":17}\n"
+        );
     }
 }

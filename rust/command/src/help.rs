@@ -24,10 +24,10 @@ FILE is a volume, or a folder, which stands for the *.vol in it.
   --version    the version
   --           what follows are names of files, even if they begin with -
 
-A volume that is not sound is refused, with a number, the offset of the fault
-and plain words:
+A volume that is not sound is refused, with a number, the offset of the fault,
+the block at fault, counted from 0, unless it is the header, and plain words:
 
-  a.vol: refused 5 at 80: checksum wrong; 0 blocks accepted before
+  a.vol: refused 5 at 4711 (block 17): checksum wrong; 17 blocks accepted before
 
 Exit status: 0 accepted; 1 refused; 2 wrong use, or a file that cannot be read
 or written.
@@ -49,10 +49,11 @@ are told, and are no fault.
                     cores, if not given)
   --json            an object a file, and no summary: file, sequence, id (of
                     the file system), previous (hash), blocks, end, and time if
-                    there is a last one; or file, refused, offset, words and
-                    blocks (accepted before); or file and error. Of several at
-                    the end: set (true or false), and id, volumes (how many)
-                    and missing (first and last of each gap), or error
+                    there is a last one; or file, refused, offset, block (none
+                    if the header is at fault), words and blocks (accepted
+                    before); or file and error. Of several at the end: set
+                    (true or false), and id, volumes (how many) and missing
+                    (first and last of each gap), or error
 
 Exit status: 0 all are sound and one set; 1 some are refused, or they are no
 set; 2 wrong use, or some cannot be read.
@@ -67,7 +68,8 @@ hdrfs list FILE [--long] [--json]
 
 Lists the blocks of a volume: where each begins, the number of its kind and its
 length. The last line says where the volume ends and how many blocks it has, or
-what is refused and where.
+what is refused and where; then which block that is, and why, is said on
+standard error.
 
   1 inode    3 unlink    5 removed xattr    7 rename
   2 link     4 xattr     6 data             8 link table
@@ -77,9 +79,9 @@ what is refused and where.
                 kind in words, its time and what it is about, with the names
                 of links
   --json        an object a line: file, sequence, id and previous; for each
-                block offset, id and length, and with --long all its numbers
-                and names; at the end, end and blocks, or file, refused,
-                offset, words and blocks
+                block its number (block, from 0), offset, id and length, and
+                with --long all its numbers and names; at the end, end and
+                blocks, or file, refused, offset, block, words and blocks
 
 Exit status: 0 the volume is sound; 1 it is refused; 2 wrong use, or it cannot
 be read.
@@ -106,10 +108,11 @@ is cut, and .. stands behind it.
 
   -j N, --jobs N    check up to N volumes at a time (as many as there are
                     cores, if not given)
-  --json            an object an inode: inode, type, size, volume, offset, mode,
-                    uid, gid, time, atime, mtime, ctime, btime, and unlinked
-                    (true or false); and if there is a last link: name, parent
-                    (its folder) and cut (true or false)
+  --json            an object an inode: inode, type, size, volume, block (the
+                    number of its block there, from 0), offset, mode, uid, gid,
+                    time, atime, mtime, ctime, btime, and unlinked (true or
+                    false); and if there is a last link: name, parent (its
+                    folder) and cut (true or false)
 
 Exit status: 0 done; 1 refused; 2 wrong use, or a file that cannot be read.
 ";

@@ -49,6 +49,7 @@ fn objects(archive: &Archive, lines: &mut Lines) -> Result<(), Failure> {
             .text("type", &inode.file_type().to_string())
             .number("size", inode.size)
             .number("volume", inode.volume)
+            .number("block", inode.block)
             .number("offset", inode.offset)
             .number("mode", inode.mode.into())
             .number("uid", inode.uid.into())

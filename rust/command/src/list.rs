@@ -2,7 +2,7 @@
 
 use std::path::{Path, PathBuf};
 
-use hdrfs::{ArchiveError, Block, Heading, Refusal, Volume};
+use hdrfs::{ArchiveError, Block, Bookmark, Heading, Refusal, Volume};
 
 use crate::commands::Request;
 use crate::failure::{Failure, Status};
@@ -53,17 +53,16 @@ impl List {
             lines.put(if self.long { long::HEADING } else { HEADING })?;
         }
         let mut blocks = Volume::blocks(volume);
-        let mut count = 0;
         for block in blocks.by_ref() {
             match block {
-                Ok(block) => lines.put(&self.block_line(count, &block, json))?,
-                Err(refusal) => return refuse(lines, path, refusal, count, json),
+                Ok(block) => lines.put(&self.block_line(&block, json))?,
+                Err(refusal) => return refuse(lines, path, refusal, json),
             }
-            count += 1;
         }
         // The walk is over and nothing was refused, so that it stands at the end.
-        let end = blocks.bookmark().map_or(0, |mark| mark.offset);
-        lines.put(&end_line(end, count, json))?;
+        if let Some(end) = blocks.bookmark() {
+            lines.put(&end_line(end, json))?;
+        }
         lines.flush()?;
         Ok(Status::Accepted)
     }
@@ -86,10 +85,10 @@ impl List {
         }
     }
 
-    fn block_line(&self, number: u64, block: &Block, json: bool) -> String {
+    fn block_line(&self, block: &Block, json: bool) -> String {
         match (self.long, json) {
-            (true, true) => long::object(number, block).line(),
-            (true, false) => long::line(number, block),
+            (true, true) => long::object(block).line(),
+            (true, false) => long::line(block),
             (false, true) => short_object(block).line(),
             (false, false) => format!("{} {} {}\n", block.offset, block.id, block.len()),
         }
@@ -100,36 +99,34 @@ const HEADING: &str = "offset id length\n";
 
 fn short_object(block: &Block) -> Object {
     Object::new()
+        .number("block", block.number)
         .number("offset", block.offset)
         .number("id", block.id)
         .number("length", block.len())
 }
 
-fn end_line(end: u64, count: u64, json: bool) -> String {
+fn end_line(end: Bookmark, json: bool) -> String {
+    let (offset, blocks) = (end.offset, end.number);
     if json {
         return Object::new()
-            .number("end", end)
-            .number("blocks", count)
+            .number("end", offset)
+            .number("blocks", blocks)
             .line();
     }
-    format!("end {end} blocks {count}\n")
+    format!("end {offset} blocks {blocks}\n")
 }
 
-/// Ends the listing with the refusal. The form of its last line has no place for the name and the
-/// words, which are said with the failure.
-fn refuse(
-    mut lines: Lines,
-    path: &Path,
-    refusal: Refusal,
-    count: u64,
-    json: bool,
-) -> Result<Status, Failure> {
+/// Ends the listing with the refusal. The form of its last line has no place for the name, the block
+/// and the words, which are said with the failure.
+fn refuse(mut lines: Lines, path: &Path, refusal: Refusal, json: bool) -> Result<Status, Failure> {
     if !json {
         let (number, offset) = (refusal.number, refusal.offset);
         lines.put(&format!("refused {number} at {offset}\n"))?;
     }
     lines.flush()?;
-    let (path, blocks) = (path.to_path_buf(), Some(count));
+    // The walk began at the header: all blocks before the one at fault were listed.
+    let blocks = Some(refusal.block.unwrap_or(0));
+    let path = path.to_path_buf();
     Err(ArchiveError::Refused {
         path,
         refusal,

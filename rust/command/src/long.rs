@@ -10,9 +10,9 @@ pub const HEADING: &str =
 
 /// A block in a line. What it is about stands last, since names may have blanks in them. Below a
 /// table its links stand in the same column.
-pub fn line(number: u64, block: &Block) -> String {
+pub fn line(block: &Block) -> String {
     let time = block.time.map_or("-".to_string(), |time| time.to_string());
-    let (offset, len) = (block.offset, block.len());
+    let (number, offset, len) = (block.number, block.offset, block.len());
     let (kind, about) = (kind(&block.content), about(&block.content));
     let mut lines =
         format!("{number:>6}  {offset:>8}  {kind:<13}  {len:>8}  {time:>20}  {about}\n");
@@ -71,9 +71,9 @@ fn about_inode(inode: &Inode) -> String {
 }
 
 /// A block for machines.
-pub fn object(number: u64, block: &Block) -> Object {
+pub fn object(block: &Block) -> Object {
     let object = Object::new()
-        .number("block", number)
+        .number("block", block.number)
         .number("offset", block.offset)
         .number("id", block.id)
         .text("kind", kind(&block.content))

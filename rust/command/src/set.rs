@@ -40,9 +40,10 @@ pub fn file(archive: &Archive, number: u64) -> Result<ArchiveFile<'_>, Failure> 
             let inode = archive.inode(number);
             let volume = inode.and_then(|inode| archive.volume(inode.volume));
             let path = volume.map(|volume| volume.path().to_path_buf());
+            let refusal = Refusal::new(Refusal::NOT_THERE, inode.map_or(0, |inode| inode.offset));
             Failure::Lacking {
                 path: path.unwrap_or_default(),
-                refusal: Refusal::new(Refusal::NOT_THERE, inode.map_or(0, |inode| inode.offset)),
+                refusal: refusal.with_block(inode.map(|inode| inode.block)),
                 missing,
             }
         }

@@ -4,7 +4,7 @@ mod support;
 
 use std::fs::File;
 
-use support::json::object;
+use support::json::{object, Object};
 use support::volumes::{data, header, inode, link, small_volume, table, FOLDER, LINK};
 use support::{Answer, Folder, NO_HASH, NO_ID};
 
@@ -41,7 +41,7 @@ fn a_link_and_its_inode_at_one_time() {
 #[test]
 fn a_refused_volume() {
     let answer = folder("check_refused").run("check damaged");
-    let lines = "damaged: refused 5 at 80: checksum wrong; 0 blocks accepted before\n\
+    let lines = "damaged: refused 5 at 80 (block 0): checksum wrong; 0 blocks accepted before\n\
                  1 file: 0 accepted, 1 refused, 0 not read\n";
     answer.is(1, lines, "");
 }
@@ -100,6 +100,17 @@ fn json_answer(jobs: &str) -> Answer {
         .run(&format!("check sound table damaged cut -j{jobs} --json"))
 }
 
+/// A refusal before which no block was accepted.
+fn refused(file: &str, number: u64, offset: u64, words: &str) -> Object {
+    object([
+        ("file", file.into()),
+        ("refused", number.into()),
+        ("offset", offset.into()),
+        ("words", words.into()),
+        ("blocks", 0.into()),
+    ])
+}
+
 #[test]
 fn objects_for_machines() {
     for answer in [json_answer("1"), json_answer("4")] {
@@ -120,16 +131,9 @@ fn objects_for_machines() {
             ("blocks", 1.into()),
             ("end", 93.into()),
         ]);
-        let refused = |file: &str, number: u64, offset: u64, words: &str| {
-            object([
-                ("file", file.into()),
-                ("refused", number.into()),
-                ("offset", offset.into()),
-                ("words", words.into()),
-                ("blocks", 0.into()),
-            ])
-        };
-        let damaged = refused("damaged", 5, 80, "checksum wrong");
+        let mut damaged = refused("damaged", 5, 80, "checksum wrong");
+        damaged.insert("block".to_string(), 0.into());
+        // The header is at fault, and no block.
         let cut = refused("cut", 2, 0, "bytes end too early");
         let set = object([
             ("set", true.into()),
@@ -152,11 +156,13 @@ fn the_blocks_before_a_fault_are_counted() {
         data(1, b"3,5"),
     ];
     folder.put("v", &[header(4), blocks.concat()].concat());
-    let lines = "v: refused 14 at 141: time lower than the last one; \
+    let lines = "v: refused 14 at 141 (block 3): time lower than the last one; \
                  3 blocks accepted before\n1 file: 0 accepted, 1 refused, 0 not read\n";
     folder.run("check v").is(1, lines, "");
     let answer = folder.run("check v --json");
-    assert_eq!(answer.objects()[0]["blocks"], 3.into());
+    for key in ["block", "blocks"] {
+        assert_eq!(answer.objects()[0][key], 3.into(), "{key}");
+    }
 }
 
 #[test]

@@ -161,8 +161,9 @@ fn a_volume_with_a_number_too_high_for_the_lengths() {
     assert_eq!(folder.run("extract high v0 --inode 7 -o out").status, 0);
     assert_eq!(folder.read("out"), b"1,5");
     folder.put("high", &high(Extent::once(u64::MAX, 97, 3, 0)));
-    let refused = "high: refused 16 at 93: volume or range is not there: its extent 0 is in \
-                   volume 18446744073709551615, a number too high for stored bytes\n";
+    let refused =
+        "high: refused 16 at 93 (block 1): volume or range is not there: its extent 0 is \
+                   in volume 18446744073709551615, a number too high for stored bytes\n";
     folder
         .run("extract high v0 --inode 7 -o out")
         .is(1, "", refused);
@@ -196,7 +197,8 @@ fn nothing_is_written(folder: &Folder, line: &str, status: i32, said: &str) {
 fn nothing_is_written_where_something_is_refused() {
     let folder = folder("extract_refused");
     let refused = |line: &str, said: &str| nothing_is_written(&folder, line, 1, said);
-    refused("extract v1 --inode 7 -o out", "v1: refused 16 at 93: ");
+    let lacking = "v1: refused 16 at 93 (block 1): ";
+    refused("extract v1 --inode 7 -o out", lacking);
     refused("extract v1 v2 --inode 7 -o out", "v2: refused 16 at ");
     refused(
         "extract v0 v1 --inode 9 -o out",
@@ -209,7 +211,7 @@ fn nothing_is_written_where_something_is_refused() {
         "folder",
         &[header(3), table(&[]), inode(9, 7, FOLDER, 70, &[])].concat(),
     );
-    let kind = "folder: refused 15 at 93: not the inode of a regular file\n";
+    let kind = "folder: refused 15 at 93 (block 1): not the inode of a regular file\n";
     refused("extract v0 v1 folder --inode 7 -o out", kind);
     let mut damaged = second();
     let last = damaged.len() - 1;
@@ -218,7 +220,8 @@ fn nothing_is_written_where_something_is_refused() {
     // The damaged block is not even needed.
     refused("extract v0 v1 v2 --inode 7 -o out", "v2: refused 5 at ");
     folder.put("v0", &small_volume()[..90]);
-    refused("extract v0 v1 --inode 7 -o out", "v0: refused 2 at 80: ");
+    let cut = "v0: refused 2 at 80 (block 0): ";
+    refused("extract v0 v1 --inode 7 -o out", cut);
 }
 
 #[test]

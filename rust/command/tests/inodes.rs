@@ -123,6 +123,9 @@ fn the_long_form_for_machines() {
         ("links", vec![link].into()),
     ]);
     assert_eq!(objects[1], table);
+    for (object, number) in objects[1..11].iter().zip(0_u64..) {
+        assert_eq!(object["block"], number.into());
+    }
     assert_eq!(objects[4]["target"], "gauge".into());
     assert_eq!(objects[5]["name"], "a \"b\"\n\u{202e}\u{1b}[31m".into());
     assert_eq!(objects[6]["child"], 7.into());
@@ -181,6 +184,7 @@ fn inodes_for_machines() {
         ("type", "regular".into()),
         ("size", 3.into()),
         ("volume", 1.into()),
+        ("block", 2.into()),
         ("offset", 191.into()),
         ("mode", 0o100_644.into()),
         ("uid", 1.into()),
@@ -246,7 +250,7 @@ fn what_is_refused() {
     let twice = "v0: has sequence number 0, as has v0\n";
     folder.run("inodes v0 v0 v1").is(1, "", twice);
     folder.put("v1", &all_kinds()[..200]);
-    let cut = "v1: refused 2 at 191: bytes end too early; 2 blocks accepted before\n";
+    let cut = "v1: refused 2 at 191 (block 2): bytes end too early; 2 blocks accepted before\n";
     folder.run("inodes v0 v1").is(1, "", cut);
     let answer = folder.run("inodes v0 none");
     assert_eq!((answer.status, answer.out.as_str()), (2, ""));

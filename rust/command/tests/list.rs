@@ -42,7 +42,8 @@ fn accepted_blocks_come_before_the_refusal() {
     ];
     folder.put("v", &[header(4), blocks.concat()].concat());
     let lines = "offset id length\n80 8 34\n114 1 75\nrefused 14 at 189\n";
-    let words = "v: refused 14 at 189: time lower than the last one; 2 blocks accepted before\n";
+    let words = "v: refused 14 at 189 (block 2): time lower than the last one; \
+                 2 blocks accepted before\n";
     folder.run("list v").is(1, lines, words);
 }
 
@@ -69,25 +70,31 @@ fn objects_for_machines() {
         ("id", NO_ID.into()),
         ("previous", NO_HASH.into()),
     ]);
-    let block = object([
-        ("offset", 80.into()),
-        ("id", 6.into()),
-        ("length", 24.into()),
-    ]);
+    let block = |number: u64, offset: u64| {
+        object([
+            ("block", number.into()),
+            ("offset", offset.into()),
+            ("id", 6.into()),
+            ("length", 24.into()),
+        ])
+    };
     let end = object([("end", 104.into()), ("blocks", 1.into())]);
-    assert_eq!(answer.objects(), [first.clone(), block.clone(), end]);
+    assert_eq!(answer.objects(), [first.clone(), block(0, 80), end]);
     assert_eq!((answer.status, answer.err.as_str()), (0, ""));
 
-    folder.put("v", &[small_volume(), vec![9]].concat());
+    let blocks = [small_volume(), data(7, b"2,5"), vec![9]];
+    folder.put("v", &blocks.concat());
     let answer = folder.run("list v --json");
     let refused = object([
         ("file", "v".into()),
         ("refused", 7.into()),
-        ("offset", 104.into()),
+        ("offset", 128.into()),
+        ("block", 2.into()),
         ("words", "unknown block ID".into()),
-        ("blocks", 1.into()),
+        ("blocks", 2.into()),
     ]);
-    assert_eq!(answer.objects(), [first, block, refused]);
+    let lines = [first, block(0, 80), block(1, 104), refused];
+    assert_eq!(answer.objects(), lines);
     assert_eq!((answer.status, answer.err.as_str()), (1, ""));
 }
 

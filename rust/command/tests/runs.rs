@@ -65,7 +65,7 @@ fn objects_for_machines() {
 #[test]
 fn what_is_refused() {
     let folder = folder("runs_refused");
-    let missing = "v1: refused 16 at 93: volume or range is not there: \
+    let missing = "v1: refused 16 at 93 (block 1): volume or range is not there: \
                    it needs volume 0, which is not given\n";
     folder.run("runs v1 --inode 7").is(1, "", missing);
     folder
@@ -76,7 +76,7 @@ fn what_is_refused() {
     let twice = "v0: has sequence number 0, as has v0\n";
     folder.run("runs v0 v1 v0 --inode 7").is(1, "", twice);
     folder.put("v0", &small_volume()[..103]);
-    let cut = "v0: refused 2 at 80: bytes end too early; 0 blocks accepted before\n";
+    let cut = "v0: refused 2 at 80 (block 0): bytes end too early; 0 blocks accepted before\n";
     folder.run("runs v1 v0 --inode 7").is(1, "", cut);
     let answer = folder.run("runs v1 none --inode 7");
     assert_eq!((answer.status, answer.out.as_str()), (2, ""));
@@ -91,6 +91,7 @@ fn refusals_for_machines() {
         ("file", "v1".into()),
         ("refused", 16.into()),
         ("offset", 93.into()),
+        ("block", 1.into()),
         ("words", "volume or range is not there".into()),
         ("inode", 7.into()),
         ("missing", vec![0_u64].into()),

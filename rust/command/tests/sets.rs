@@ -123,7 +123,7 @@ fn what_a_file_lacks_is_told() {
     );
     let len = folder.read("v1").len();
     let said = format!(
-        "v1: refused 16 at 93: volume or range is not there: \
+        "v1: refused 16 at 93 (block 1): volume or range is not there: \
          it needs volumes 3 and 12, which are not given; \
          its extent 2, at 1000 of volume 1, reaches beyond the {len} bytes there; \
          its extent 5, at 104 of volume 0, reaches beyond the 104 bytes there\n"
@@ -146,6 +146,7 @@ fn what_a_file_lacks_is_told() {
         ("file", "v1".into()),
         ("refused", 16.into()),
         ("offset", 93.into()),
+        ("block", 1.into()),
         ("words", "volume or range is not there".into()),
         ("inode", 7.into()),
         ("missing", vec![3_u64, 12].into()),

@@ -1,7 +1,8 @@
 //! What the command has to say, by the independent implementation.
 
 use compare::json::Json;
-use independent::{check, read_header, Inode, Lacking, Set, SetFault, Verdict, LENGTHS_LIMIT};
+use independent::LENGTHS_LIMIT;
+use independent::{check, read, read_header, Inode, Lacking, Reading, Set, SetFault, Verdict};
 
 use crate::given::place;
 
@@ -28,6 +29,14 @@ pub fn text(text: &str) -> Json {
 
 fn hexadecimal(bytes: &[u8]) -> Json {
     Json::Text(bytes.iter().map(|byte| format!("{byte:02x}")).collect())
+}
+
+/// The block at fault after so many. The header stands at 0, and no block does.
+fn at_fault(offset: u64, blocks: u64) -> Json {
+    match offset {
+        0 => Json::Null,
+        _ => number(blocks),
+    }
 }
 
 /// What the check says of a volume.
@@ -58,6 +67,7 @@ pub fn verdict(volume: &[u8]) -> Fields {
         ) => vec![
             ("refused", number(refused)),
             ("offset", number(offset)),
+            ("block", at_fault(offset, blocks)),
             ("blocks", number(blocks)),
         ],
         (Verdict::Accepted { .. }, Err(refused)) => unreachable!("header refused: {refused}"),
@@ -78,13 +88,29 @@ pub fn summary(set: &Set<'_>) -> Fields {
     ]
 }
 
+/// The number of an inode's block: how many are read before it.
+pub fn block(set: &Set<'_>, inode: &Inode<'_>) -> Json {
+    let volume = set.volumes()[&inode.volume];
+    let mut mark = read_header(volume).expect("an accepted header").next;
+    let mut before = 0;
+    while mark.offset < inode.offset {
+        let Ok(Reading::Block(_, next)) = read(volume, mark) else {
+            unreachable!("no block at {mark:?}");
+        };
+        mark = next;
+        before += 1;
+    }
+    number(before)
+}
+
 /// What is said of an inode.
-pub fn inode(inode: &Inode<'_>) -> Fields {
+pub fn inode(set: &Set<'_>, inode: &Inode<'_>) -> Fields {
     let stat = &inode.stat;
     let mut fields = vec![
         ("inode", number(stat.inode)),
         ("size", number(stat.size)),
         ("volume", number(inode.volume)),
+        ("block", block(set, inode)),
         ("offset", number(inode.offset)),
         ("mode", number(stat.mode.into())),
         ("uid", number(stat.uid.into())),

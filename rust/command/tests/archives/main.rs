@@ -128,7 +128,7 @@ fn inodes(given: &Given, set: &Set<'_>) -> Result<u64, String> {
         return Err(format!("{} inodes: {ran:?}", objects.len()));
     }
     for (object, inode) in objects.iter().zip(set.inodes().values()) {
-        has(object, &expected::inode(inode))?;
+        has(object, &expected::inode(set, inode))?;
     }
     Ok(objects.len() as u64)
 }
@@ -255,10 +255,11 @@ fn refused_file(
     ran.ended(1)?;
     let object = ran.object()?;
     if let Some(refused) = refusal.number() {
-        let offset = set.inodes()[&number].offset;
+        let inode = &set.inodes()[&number];
         let fields = vec![
             ("refused", expected::number(refused)),
-            ("offset", expected::number(offset)),
+            ("offset", expected::number(inode.offset)),
+            ("block", expected::block(set, inode)),
         ];
         has(&object, &fields)?;
     }
