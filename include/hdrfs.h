@@ -200,7 +200,7 @@ hdrfs_written hdrfs_append_link(uint8_t *buf, size_t buf_len, uint64_t offset, u
                                 const uint8_t *name, size_t name_len);
 hdrfs_written hdrfs_append_unlink(uint8_t *buf, size_t buf_len, uint64_t offset, uint64_t due, uint64_t timed, uint64_t last,
                                   uint64_t number, uint64_t time, uint64_t child, uint64_t parent,
-                                const uint8_t *name, size_t name_len);
+                                  const uint8_t *name, size_t name_len);
 hdrfs_written hdrfs_append_xattr(uint8_t *buf, size_t buf_len, uint64_t offset, uint64_t due, uint64_t timed, uint64_t last,
                                  uint64_t number, uint64_t time, uint64_t inode, const uint8_t *name, size_t name_len,
                                  const uint8_t *value, size_t value_len);
