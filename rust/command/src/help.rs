@@ -68,8 +68,8 @@ hdrfs list FILE [--long] [--json]
 
 Lists the blocks of a volume: where each begins, the number of its kind and its
 length. The last line says where the volume ends and how many blocks it has, or
-what is refused and where; then which block that is, and why, is said on
-standard error.
+what is refused and where; which block that is, and why, is said on standard
+error.
 
   1 inode    3 unlink    5 removed xattr    7 rename
   2 link     4 xattr     6 data             8 link table

@@ -56,7 +56,7 @@ impl List {
         for block in blocks.by_ref() {
             match block {
                 Ok(block) => lines.put(&self.block_line(&block, json))?,
-                Err(refusal) => return refuse(lines, path, refusal, json),
+                Err(refusal) => return self.refuse(lines, path, refusal, json),
             }
         }
         // The walk is over and nothing was refused, so that it stands at the end.
@@ -93,6 +93,35 @@ impl List {
             (false, false) => format!("{} {} {}\n", block.offset, block.id, block.len()),
         }
     }
+
+    /// Ends the listing with the refusal. The last line of the short form has no place for the block,
+    /// and that of neither form for the name and the words; all are said with the failure.
+    fn refuse(
+        &self,
+        mut lines: Lines,
+        path: &Path,
+        refusal: Refusal,
+        json: bool,
+    ) -> Result<Status, Failure> {
+        if !json {
+            let (number, offset) = (refusal.number, refusal.offset);
+            let block = match refusal.block {
+                Some(block) if self.long => format!(" (block {block})"),
+                _ => String::new(),
+            };
+            lines.put(&format!("refused {number} at {offset}{block}\n"))?;
+        }
+        lines.flush()?;
+        // The walk began at the header: all blocks before the one at fault were listed.
+        let blocks = Some(refusal.block.unwrap_or(0));
+        let path = path.to_path_buf();
+        Err(ArchiveError::Refused {
+            path,
+            refusal,
+            blocks,
+        }
+        .into())
+    }
 }
 
 const HEADING: &str = "offset id length\n";
@@ -114,23 +143,4 @@ fn end_line(end: Bookmark, json: bool) -> String {
             .line();
     }
     format!("end {offset} blocks {blocks}\n")
-}
-
-/// Ends the listing with the refusal. The form of its last line has no place for the name, the block
-/// and the words, which are said with the failure.
-fn refuse(mut lines: Lines, path: &Path, refusal: Refusal, json: bool) -> Result<Status, Failure> {
-    if !json {
-        let (number, offset) = (refusal.number, refusal.offset);
-        lines.put(&format!("refused {number} at {offset}\n"))?;
-    }
-    lines.flush()?;
-    // The walk began at the header: all blocks before the one at fault were listed.
-    let blocks = Some(refusal.block.unwrap_or(0));
-    let path = path.to_path_buf();
-    Err(ArchiveError::Refused {
-        path,
-        refusal,
-        blocks,
-    }
-    .into())
 }
