@@ -29,16 +29,26 @@ pub struct Bookmark {
     pub due: bool,
     /// The time of the last block that had one.
     pub last: Option<u64>,
+    /// How many blocks stand before it, a table among them.
+    pub number: u64,
 }
 
 impl Bookmark {
-    /// A place where no table must come next and before which there is no time.
+    /// A place where no table must come next and before which there is no
+    /// time and no block.
     pub const fn at(offset: u64) -> Bookmark {
         Bookmark {
             offset,
             due: false,
             last: None,
+            number: 0,
         }
+    }
+
+    /// The same with so many blocks before it.
+    #[must_use]
+    pub const fn numbered(self, number: u64) -> Bookmark {
+        Bookmark { number, ..self }
     }
 
     /// Refuses a time that is lower than the last one before it. It may be
@@ -51,13 +61,24 @@ impl Bookmark {
         }
     }
 
-    /// The bookmark after a block that begins here, ends at `end` and has this time.
+    /// Refuses one more block where the number after it would not fit.
+    #[inline]
+    pub(crate) fn admit_one_more(self) -> Result<(), Refusal> {
+        if self.number == u64::MAX {
+            return Err(OVER_LIMIT);
+        }
+        Ok(())
+    }
+
+    /// The bookmark after a block that begins here, ends at `end` and has this
+    /// time. The block was admitted, so there is a number after this one.
     #[inline]
     pub(crate) fn after(self, end: u64, time: Option<u64>) -> Bookmark {
         Bookmark {
             offset: end,
             due: false,
             last: time.or(self.last),
+            number: self.number + 1,
         }
     }
 }
@@ -136,6 +157,8 @@ pub enum Body<'a> {
 #[derive(Clone, Copy, Debug, PartialEq, Eq)]
 pub struct Block<'a> {
     pub id: u8,
+    /// How many blocks stand before it: the bookmark's number.
+    pub number: u64,
     pub offset: u64,
     /// Bytes of the whole block, checksum included.
     pub length: u64,
@@ -192,9 +215,11 @@ pub fn read_with(
     }
     let (body, time) = decode(id, image, mark.offset)?;
     mark.admit(time)?;
+    mark.admit_one_more()?;
     let length = (covered + CRC) as u64;
     let block = Block {
         id,
+        number: mark.number,
         offset: mark.offset,
         length,
         time,

@@ -8,7 +8,7 @@ use crate::header::read_header;
 pub enum Verdict {
     Accepted {
         sequence: u64,
-        /// Blocks after the header, a table among them.
+        /// Blocks after the header, a table among them: the end's number.
         blocks: u64,
         end: Bookmark,
     },
@@ -16,7 +16,7 @@ pub enum Verdict {
         number: u64,
         /// Where the header or block at fault begins.
         offset: u64,
-        /// Blocks before it.
+        /// Blocks before it, and so the number of the block at fault.
         blocks: u64,
     },
 }
@@ -39,17 +39,13 @@ pub fn check_with(volume: &[u8], crc: impl Fn(&[u8]) -> u32) -> Verdict {
         }
     };
     let mut mark = header.next;
-    let mut blocks = 0;
     loop {
         match read_with(volume, mark, &crc) {
-            Ok(Reading::Block(_, next)) => {
-                mark = next;
-                blocks += 1;
-            }
+            Ok(Reading::Block(_, next)) => mark = next,
             Ok(Reading::End) => {
                 return Verdict::Accepted {
                     sequence: header.sequence,
-                    blocks,
+                    blocks: mark.number,
                     end: mark,
                 }
             }
@@ -57,7 +53,7 @@ pub fn check_with(volume: &[u8], crc: impl Fn(&[u8]) -> u32) -> Verdict {
                 return Verdict::Refused {
                     number,
                     offset: mark.offset,
-                    blocks,
+                    blocks: mark.number,
                 }
             }
         }

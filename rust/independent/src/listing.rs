@@ -28,15 +28,13 @@ pub fn listing(volume: &[u8]) -> String {
 /// The end and the number of blocks, or the refusal and where.
 fn list_blocks(volume: &[u8], text: &mut String) -> Result<(u64, u64), (u64, u64)> {
     let mut mark = read_header(volume).map_err(|number| (number, 0))?.next;
-    let mut blocks = 0;
     loop {
         match read(volume, mark).map_err(|number| (number, mark.offset))? {
-            Reading::End => return Ok((mark.offset, blocks)),
+            Reading::End => return Ok((mark.offset, mark.number)),
             Reading::Block(block, next) => {
                 writeln!(text, "{} {} {}", block.offset, block.id, block.length)
                     .expect("a string takes all text");
                 mark = next;
-                blocks += 1;
             }
         }
     }

@@ -112,6 +112,8 @@ pub struct LastLink<'a> {
 pub struct Inode<'a> {
     /// The sequence number of the volume that has it.
     pub volume: u64,
+    /// Its number among the blocks there.
+    pub block: u64,
     /// Its offset there.
     pub offset: u64,
     /// Its numbers.
@@ -196,6 +198,7 @@ fn inodes<'a>(volumes: &BTreeMap<u64, &'a [u8]>) -> BTreeMap<u64, Inode<'a>> {
             if let Body::Inode { stat, variable } = block.body {
                 let inode = Inode {
                     volume,
+                    block: block.number,
                     offset: block.offset,
                     stat,
                     variable,

@@ -198,12 +198,13 @@ pub fn append_table(
     put(buffer, mark, None, &fields, bytes)
 }
 
-/// Whether a table, or another block, may stand at the bookmark.
+/// Whether a table, or another block, may stand at the bookmark and can be
+/// counted there. Every append asks this first.
 fn place(mark: Bookmark, table: bool) -> Result<(), Refusal> {
     if mark.offset < HEADER_LENGTH as u64 || mark.due != table {
         return Err(OUT_OF_PLACE);
     }
-    Ok(())
+    mark.admit_one_more()
 }
 
 fn text(bytes: &[u8]) -> Result<(), Refusal> {

@@ -46,10 +46,11 @@ fn set<'a>(volumes: &[&'a [u8]]) -> Set<'a> {
     Set::new(volumes).expect("a set")
 }
 
-/// Where the current inode block of a number stands.
-fn stands(set: &Set<'_>, number: u64) -> (u64, u64) {
+/// Where the current inode block of a number stands: volume, number of the
+/// block there, offset.
+fn stands(set: &Set<'_>, number: u64) -> (u64, u64, u64) {
     let inode = set.inodes()[&number];
-    (inode.volume, inode.offset)
+    (inode.volume, inode.block, inode.offset)
 }
 
 #[test]
@@ -58,7 +59,7 @@ fn the_highest_volume_has_the_current_inode() {
     assert_eq!((zero.len(), one.len()), (243, 306));
     for given in [[&zero[..], &one[..]], [&one[..], &zero[..]]] {
         let set = set(&given);
-        assert_eq!(stands(&set, 5), (1, 117));
+        assert_eq!(stands(&set, 5), (1, 2, 117));
         assert_eq!(set.inodes()[&5].stat.size, 14);
         assert_eq!(set.inodes()[&5].stat.time, 1);
         assert_eq!(set.id(), [7; 16]);
@@ -68,7 +69,7 @@ fn the_highest_volume_has_the_current_inode() {
         assert_eq!(file.bytes(0, TOP), b"YZXYZXY\0\0cde\0\0");
     }
     let alone = set(&[&zero]);
-    assert_eq!(stands(&alone, 5), (0, 111));
+    assert_eq!(stands(&alone, 5), (0, 1, 111));
     assert_eq!(alone.file(5).expect("a file").bytes(0, TOP), b"abcdefghij");
 }
 
@@ -85,8 +86,8 @@ fn the_last_block_of_a_volume_has_the_current_inode() {
         ];
         let zero = volume(0, &blocks);
         let set = set(&[&zero]);
-        assert_eq!(stands(&set, 5), (0, 80 + 3 * 75));
-        assert_eq!(stands(&set, 6), (0, 80 + 4 * 75));
+        assert_eq!(stands(&set, 5), (0, 3, 80 + 3 * 75));
+        assert_eq!(stands(&set, 6), (0, 4, 80 + 4 * 75));
         assert_eq!(set.inodes().len(), 2);
         assert_eq!(set.inodes()[&6].variable.bytes, b"up");
         assert_eq!(set.file(5).unwrap_err(), FileRefusal::NotRegular);

@@ -53,7 +53,7 @@ fn a_table_leaves_the_last_time_as_it_was() {
         let Ok(Reading::Block(_, next)) = read(&bytes, mark(80, true, Some(last))) else {
             panic!("the table is refused");
         };
-        assert_eq!(next, mark(93, false, Some(last)));
+        assert_eq!(next, mark(93, false, Some(last)).numbered(1));
         assert_eq!(read(&bytes, next).map(|_| ()), after);
     }
 }
@@ -63,26 +63,13 @@ fn appends_at_the_end_of_a_volume() {
     let mut buffer = logged(&[7]);
     buffer.resize(128, 0xEE);
     let kept = buffer.clone();
-    let end = mark(104, false, Some(7));
+    let end = mark(104, false, Some(7)).numbered(1);
     assert_eq!(append_data(&mut buffer, end, 6, b"1,5"), Err(14));
     assert_eq!(buffer, kept);
     let next = append_data(&mut buffer, end, 7, b"1,5");
-    assert_eq!(next, Ok(mark(128, false, Some(7))));
+    assert_eq!(next, Ok(mark(128, false, Some(7)).numbered(2)));
     assert_eq!(buffer, logged(&[7, 7]));
 }
-
-type Append = fn(&mut [u8], Bookmark, u64) -> Result<Bookmark, Refusal>;
-
-/// The appends of [`one_of_each`], in its order.
-const APPENDS: [Append; 7] = [
-    |buffer, mark, time| append_inode(buffer, mark, &stat(time, SYMBOLIC, 71), b"t"),
-    |buffer, mark, time| append_link(buffer, mark, time, 5, 1, b"n"),
-    |buffer, mark, time| append_unlink(buffer, mark, time, 5, 1, b"n"),
-    |buffer, mark, time| append_xattr(buffer, mark, time, 5, b"n", b"\xff"),
-    |buffer, mark, time| append_removed_xattr(buffer, mark, time, 5, b"n"),
-    |buffer, mark, time| append_data(buffer, mark, time, b"\xff"),
-    |buffer, mark, time| append_rename(buffer, mark, time, b"o", b"n"),
-];
 
 /// Last times and times that may follow. No last time is as good as 0.
 const FOLLOWING: [(Option<u64>, u64); 9] = [
@@ -112,7 +99,7 @@ fn every_kind_may_follow() {
         let from = mark(80, false, last);
         for (image, append) in one_of_each(time).iter().zip(APPENDS) {
             let bytes = [header(0), image.clone()].concat();
-            let end = mark(bytes.len() as u64, false, Some(time));
+            let end = mark(bytes.len() as u64, false, Some(time)).numbered(1);
             let Ok(Reading::Block(block, next)) = read(&bytes, from) else {
                 panic!("{last:?}, then block {} at {time}", image[0]);
             };

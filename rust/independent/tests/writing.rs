@@ -33,8 +33,17 @@ fn append(buffer: &mut [u8], mark: Bookmark, what: &Append) -> Result<Bookmark, 
     }
 }
 
-/// The refusal with that much room; the buffer must stay as it was.
+/// The refusal with that much room, which is another where one block more
+/// cannot be counted: only a wrong place comes before that.
 fn refusal(room: usize, mark: Bookmark, what: &Append) -> u64 {
+    let number = refusal_once(room, mark, what);
+    let full = refusal_once(room, mark.numbered(TOP), what);
+    assert_eq!(full, if number == 8 { 8 } else { 9 }, "{mark:?}");
+    number
+}
+
+/// The refusal; the buffer must stay as it was.
+fn refusal_once(room: usize, mark: Bookmark, what: &Append) -> u64 {
     let mut buffer = vec![0xEE; room];
     let answer = append(&mut buffer, mark, what);
     assert!(answer.is_ok() || buffer.iter().all(|&byte| byte == 0xEE));
@@ -103,7 +112,7 @@ fn images() {
         let mut buffer = vec![0xEE; end + 3];
         let next = append(&mut buffer, from, &what);
         let last = if due { 2 } else { 3 };
-        assert_eq!(next, Ok(mark(end as u64, false, Some(last))));
+        assert_eq!(next, Ok(mark(end as u64, false, Some(last)).numbered(1)));
         assert!(buffer[..100].iter().all(|&byte| byte == 0xEE));
         assert_eq!(buffer[100..end], image);
         assert_eq!(buffer[end..], [0xEE; 3]);

@@ -1,7 +1,10 @@
 //! Bytes of headers and blocks, put together by hand.
 #![allow(dead_code)]
 
-use independent::{crc, Bookmark, Stat, Verdict};
+use std::fs;
+use std::path::PathBuf;
+
+use independent::*;
 
 pub const REGULAR: u16 = 0x81A4;
 pub const SYMBOLIC: u16 = 0xA1FF;
@@ -154,6 +157,19 @@ pub fn one_of_each(time: u64) -> [Vec<u8>; 7] {
     ]
 }
 
+pub type TimedAppend = fn(&mut [u8], Bookmark, u64) -> Result<Bookmark, Refusal>;
+
+/// The appends of [`one_of_each`], in its order.
+pub const APPENDS: [TimedAppend; 7] = [
+    |buffer, mark, time| append_inode(buffer, mark, &stat(time, SYMBOLIC, 71), b"t"),
+    |buffer, mark, time| append_link(buffer, mark, time, 5, 1, b"n"),
+    |buffer, mark, time| append_unlink(buffer, mark, time, 5, 1, b"n"),
+    |buffer, mark, time| append_xattr(buffer, mark, time, 5, b"n", b"\xff"),
+    |buffer, mark, time| append_removed_xattr(buffer, mark, time, 5, b"n"),
+    |buffer, mark, time| append_data(buffer, mark, time, b"\xff"),
+    |buffer, mark, time| append_rename(buffer, mark, time, b"o", b"n"),
+];
+
 /// Volume, start, size, multiplicity, count, pre, post, logical start.
 pub type Fields = (u64, u64, u64, u8, u64, u64, u64, u64);
 
@@ -191,13 +207,26 @@ pub fn lengths(list: &[u64]) -> Vec<u8> {
         .collect()
 }
 
-pub fn mark(offset: u64, due: bool, last: Option<u64>) -> Bookmark {
-    Bookmark { offset, due, last }
+/// One of the sample volumes that come with the rules.
+pub fn sample(name: &str) -> Vec<u8> {
+    let folder = PathBuf::from(env!("CARGO_MANIFEST_DIR")).join("../../crates/samples/data");
+    let path = folder.join(name);
+    fs::read(&path).unwrap_or_else(|error| panic!("{}: {error}", path.display()))
 }
 
-/// No table is due at the end of an accepted volume.
+/// A bookmark with no block before it.
+pub fn mark(offset: u64, due: bool, last: Option<u64>) -> Bookmark {
+    Bookmark {
+        due,
+        last,
+        ..Bookmark::at(offset)
+    }
+}
+
+/// No table is due at the end of an accepted volume, and its number is that
+/// of all blocks.
 pub fn accepted(sequence: u64, blocks: u64, end: u64, last: Option<u64>) -> Verdict {
-    let end = mark(end, false, last);
+    let end = mark(end, false, last).numbered(blocks);
     Verdict::Accepted {
         sequence,
         blocks,
