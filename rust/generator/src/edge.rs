@@ -2,15 +2,20 @@
 
 use crate::draft::{self, Draft, File};
 use crate::image::{self, Extent, Stat, COUNTED, LIMIT, REPEATED};
+use crate::number::FULL;
 use crate::rng::Rng;
-use crate::{time, Expected};
+use crate::{time, Expected, Mark};
 
 const TOP: u64 = u64::MAX;
 
 /// How many kinds of edges there are. The last [`LARGE`] have 16 MiB.
 pub const COUNT: u64 = SMALL + LARGE;
-pub const SMALL: u64 = 44;
+pub const SMALL: u64 = 46;
 pub const LARGE: u64 = 4;
+
+/// The sample volume, and the same with a damaged checksum.
+const SAMPLE: u64 = 44;
+const DAMAGED_SAMPLE: u64 = 45;
 
 /// The volume of one kind, and the verdict on it where it is known.
 pub fn edge(rng: &mut Rng, kind: u64) -> (Draft, Expected) {
@@ -156,7 +161,7 @@ pub fn edge(rng: &mut Rng, kind: u64) -> (Draft, Expected) {
         31..=34 => (one_file(rng, repeats(kind - 31)), Expected::Accepted),
         35 => {
             // File A, and the same with two bytes taken off its end.
-            let mut draft = sample(rng);
+            let mut draft = sample(rng, 1);
             let file = extent(97, 3, COUNTED, 1, 0, 0, 0);
             draft.file(rng, 2, 3, vec![file]);
             draft.file(rng, 3, 3, vec![Extent { post: 2, ..file }]);
@@ -164,7 +169,7 @@ pub fn edge(rng: &mut Rng, kind: u64) -> (Draft, Expected) {
         }
         36 => {
             // File B.
-            let mut draft = sample(rng);
+            let mut draft = sample(rng, 1);
             draft.file(rng, 2, 14, vec![extent(97, 3, REPEATED, 3, 1, 1, 4)]);
             (draft, Expected::Accepted)
         }
@@ -192,10 +197,16 @@ pub fn edge(rng: &mut Rng, kind: u64) -> (Draft, Expected) {
             (one_file(rng, list), expected)
         }
         40..=43 => times(rng, kind - 40),
-        44 | 45 => {
+        SAMPLE => (sample(rng, 7), Expected::Accepted),
+        DAMAGED_SAMPLE => {
+            let mut draft = sample(rng, 7);
+            draft.bytes[103] ^= 1;
+            (draft, refused(5, 80, 0))
+        }
+        46 | 47 => {
             // One data block up to the last byte, and one byte more.
             let mut draft = Draft::new(rng, 0);
-            let more = (kind - 44) as usize;
+            let more = (kind - 46) as usize;
             let payload = vec![rng.word() as u8; LIMIT - 101 + more];
             draft.push_timed(7, &image::data(7, &payload));
             let expected = if more == 0 {
@@ -205,7 +216,7 @@ pub fn edge(rng: &mut Rng, kind: u64) -> (Draft, Expected) {
             };
             (draft, expected)
         }
-        46 => {
+        48 => {
             // A file at the very end.
             let mut draft = Draft::new(rng, 0);
             let list = vec![extent(97, 3, REPEATED, 3, 1, 1, 4)];
@@ -216,7 +227,7 @@ pub fn edge(rng: &mut Rng, kind: u64) -> (Draft, Expected) {
         }
         _ => {
             // The same file with one byte behind it.
-            let (mut draft, _) = edge(rng, 46);
+            let (mut draft, _) = edge(rng, 48);
             draft.bytes.push(6);
             (draft, refused(1, 0, 0))
         }
@@ -265,11 +276,33 @@ fn many_links(count: u64) -> Vec<Vec<u8>> {
         .collect()
 }
 
-/// Volume 0 with the data block of the sample volume.
-fn sample(rng: &mut Rng) -> Draft {
+/// Volume 0 with the data block of the sample volume, at this time.
+fn sample(rng: &mut Rng, time: u64) -> Draft {
     let mut draft = Draft::new(rng, 0);
-    draft.push_timed(1, &image::data(1, b"1,5"));
+    draft.push_timed(time, &image::data(time, b"1,5"));
     draft
+}
+
+/// The bookmarks at which a volume of this kind is read besides those that
+/// are drawn. Each number stands beside all that may be told before it.
+pub fn bookmarks(kind: u64) -> Vec<Mark> {
+    let mut list = Vec::new();
+    if ![SAMPLE, DAMAGED_SAMPLE].contains(&kind) {
+        return list;
+    }
+    for offset in [79, 80, 104, 105] {
+        for due in [false, true] {
+            for last in [None, Some(7), Some(8)] {
+                list.extend([0, 1, FULL - 1, FULL].map(|number| Mark {
+                    offset,
+                    due,
+                    last,
+                    number,
+                }));
+            }
+        }
+    }
+    list
 }
 
 /// The same time twice, a lower one, a link with its inode at one time, and

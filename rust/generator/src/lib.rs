@@ -14,6 +14,7 @@ pub mod edge;
 pub mod extents;
 pub mod fault;
 pub mod image;
+pub mod number;
 mod question;
 pub mod rng;
 pub mod text;
@@ -30,6 +31,8 @@ pub struct Mark {
     pub offset: u64,
     pub due: bool,
     pub last: Option<u64>,
+    /// How many blocks stand before it, or are said to.
+    pub number: u64,
 }
 
 /// The verdict on the whole volume, as far as its making fixes it.
@@ -102,7 +105,11 @@ pub fn case(seed: u64) -> Case {
 
 /// Every kind of edge once, those of 16 MiB included.
 pub fn edges() -> impl Iterator<Item = Case> {
-    (0..edge::COUNT).map(|kind| at_edge(kind, Rng::new(kind), kind))
+    (0..edge::COUNT).map(|kind| {
+        let mut case = at_edge(kind, Rng::new(kind), kind);
+        case.bookmarks.extend(edge::bookmarks(kind));
+        case
+    })
 }
 
 fn at_edge(seed: u64, mut rng: Rng, kind: u64) -> Case {

@@ -3,7 +3,7 @@
 use crate::draft::Draft;
 use crate::image::Extent;
 use crate::rng::Rng;
-use crate::{time, Case, Mark};
+use crate::{number, time, Case, Mark};
 
 const TOP: u64 = u64::MAX;
 
@@ -162,13 +162,19 @@ fn bookmarks(rng: &mut Rng, draft: &Draft, most: usize) -> Vec<Mark> {
             3 | 4 => mark.last = time.map(|time| time::around(rng, time)),
             _ => {}
         }
+        if rng.once_in(2) {
+            mark.number = number::made_up(rng);
+        }
     }
     let mut list: Vec<Mark> = list.into_iter().map(|(mark, _)| mark).collect();
-    for _ in 0..2 {
+    // One is always full: only few volumes are too long, and each has to show
+    // that this is told first.
+    for number in [number::FULL, number::made_up(rng)] {
         list.push(Mark {
             offset: odd_offset(rng, draft),
             due: rng.once_in(3),
             last: rng.once_in(2).then(|| rng.number()),
+            number,
         });
     }
     list
@@ -187,6 +193,7 @@ fn true_bookmarks(draft: &Draft) -> Vec<(Mark, Option<u64>)> {
             offset,
             due: place == 0 && draft.sequence > 0,
             last: draft.times[place],
+            number: place as u64,
         };
         (mark, time_at(place).or_else(|| time_at(place + 1)))
     };
@@ -194,6 +201,7 @@ fn true_bookmarks(draft: &Draft) -> Vec<(Mark, Option<u64>)> {
         offset: draft.bytes.len() as u64,
         due: false,
         last: draft.last,
+        number: draft.places.len() as u64,
     };
     let mut list: Vec<_> = draft.places.iter().enumerate().map(at).collect();
     list.push((end, None));

@@ -1,9 +1,13 @@
 //! Every refusal that can occur is reached, and verdicts fixed by a case's
 //! making are the ones given.
 
+mod common;
+
+use common::bookmark;
+use generator::number::FULL;
 use generator::{case, describe, edges, Case, Expected};
 use independent::refusal::{Refusal, LARGEST};
-use independent::{check, fetch, lookup, read, runs, Bookmark, Place, Reading, Verdict};
+use independent::{check, fetch, lookup, read, runs, Place, Reading, Verdict};
 
 const SEEDS: u64 = 20_000;
 
@@ -15,6 +19,8 @@ type Numbers = [u64; LARGEST + 1];
 struct Counts {
     check: Numbers,
     read: Numbers,
+    /// Readings at the largest number, where 0 is the end.
+    full: Numbers,
     lookup: Numbers,
     runs: Numbers,
     fetch: Numbers,
@@ -41,13 +47,9 @@ impl Counts {
         compare(case, verdict);
 
         for mark in &case.bookmarks {
-            let mark = Bookmark {
-                offset: mark.offset,
-                due: mark.due,
-                last: mark.last,
-            };
-            let answer = read(volume, mark);
+            let answer = read(volume, bookmark(mark));
             self.read[number(&answer)] += 1;
+            self.full[number(&answer)] += u64::from(mark.number == FULL);
             self.ends += u64::from(answer == Ok(Reading::End));
         }
         for &offset in &case.inode_offsets {
@@ -78,11 +80,16 @@ impl Counts {
     }
 
     fn print(&self) {
-        println!("number     check      read    lookup      runs     fetch");
+        println!("number     check      read      full    lookup      runs     fetch");
         for k in 0..=LARGEST {
             println!(
-                "{k:6} {:9} {:9} {:9} {:9} {:9}",
-                self.check[k], self.read[k], self.lookup[k], self.runs[k], self.fetch[k]
+                "{k:6} {:9} {:9} {:9} {:9} {:9} {:9}",
+                self.check[k],
+                self.read[k],
+                self.full[k],
+                self.lookup[k],
+                self.runs[k],
+                self.fetch[k]
             );
         }
         println!(
@@ -128,11 +135,9 @@ fn every_refusal_is_reached() {
     }
     counts.print();
     reached("check", &counts.check, &(0..=14).collect::<Vec<_>>());
-    reached(
-        "read",
-        &counts.read,
-        &[0, 1, 2, 5, 7, 8, 9, 10, 11, 12, 13, 14],
-    );
+    let by_bookmark = [0, 1, 2, 5, 7, 8, 9, 10, 11, 12, 13, 14];
+    reached("read", &counts.read, &by_bookmark);
+    reached("read at the largest number", &counts.full, &by_bookmark);
     // No last time, no table due, no header read: 3, 4, 6, 13 and 14 stay out.
     let own = [0, 1, 2, 5, 7, 8, 9, 10, 11, 12, 15, 16];
     reached("lookup", &counts.lookup, &own);

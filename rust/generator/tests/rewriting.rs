@@ -1,5 +1,9 @@
 //! What is read can be written again, and what is not read cannot.
 
+mod common;
+
+use common::{Found, KINDS};
+use generator::number::FULL;
 use generator::{case, describe, Case, Expected};
 use independent::refusal::LARGEST;
 use independent::*;
@@ -120,10 +124,53 @@ fn faulty_blocks_are_not_written() {
         let kept = buffer.clone();
         let answer = append_raw(&mut buffer, mark, image);
         assert_eq!(answer, Err(number), "{}", describe(&case));
+        let full = append_raw(&mut buffer, mark.numbered(FULL), image);
+        assert_eq!(full, Err(9), "{}", describe(&case));
         assert!(buffer == kept);
         seen[number as usize] += 1;
     }
     assert!(seen[10..=14].iter().all(|&count| count > 50), "{seen:?}");
+}
+
+/// Appends the block at a bookmark of a volume at the last number after which
+/// there is another, and at the largest: there only a wrong place is told
+/// before.
+fn at_the_last_numbers(case: &Case, mark: Bookmark, next: Bookmark) {
+    let (from, to) = (mark.offset as usize, next.offset as usize);
+    let image = &case.volume[from..to];
+    let mut buffer = vec![0xEE; to];
+    let full = mark.numbered(FULL);
+    let misplaced = Bookmark {
+        due: !full.due,
+        ..full
+    };
+    for (mark, refusal) in [(full, 9), (misplaced, 8)] {
+        let answer = append_raw(&mut buffer, mark, image);
+        assert_eq!(answer, Err(refusal), "{}", describe(case));
+        assert!(buffer.iter().all(|&byte| byte == 0xEE));
+    }
+    let answer = append_raw(&mut buffer, mark.numbered(FULL - 1), image);
+    assert_eq!(answer, Ok(next.numbered(FULL)), "{}", describe(case));
+    assert!(&buffer[from..] == image);
+}
+
+#[test]
+fn blocks_of_every_kind_at_the_last_numbers() {
+    let mut found = Found::default();
+    for seed in 0..2_000 {
+        let case = case(seed);
+        if case.expected != Expected::Accepted || case.volume.len() > 1 << 20 {
+            continue;
+        }
+        let mut mark = read_header(&case.volume).unwrap().next;
+        while let Reading::Block(block, next) = read(&case.volume, mark).unwrap() {
+            at_the_last_numbers(&case, mark, next);
+            found.note(KINDS[usize::from(block.id) - 1], true);
+            mark = next;
+        }
+    }
+    assert_eq!(found.0.len(), KINDS.len());
+    found.at_least(50);
 }
 
 /// The bytes of the block at the front; it is there in full.

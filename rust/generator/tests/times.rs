@@ -3,7 +3,7 @@
 
 mod common;
 
-use common::Found;
+use common::{bookmark, Found, KINDS};
 use generator::archive::archive;
 use generator::image::{INODE, TABLE};
 use generator::{case, describe, time, Case, Expected};
@@ -13,17 +13,6 @@ const TOP: Option<u64> = Some(u64::MAX);
 
 const SEEDS: u64 = 10_000;
 const ARCHIVES: u64 = 3_000;
-
-/// A second block at the time of the first, by its kind.
-const KINDS: [&str; 7] = [
-    "an inode",
-    "a link",
-    "an unlink",
-    "an attribute",
-    "a removed attribute",
-    "data",
-    "a rename",
-];
 
 /// The blocks of an accepted volume that have a time.
 fn timed(volume: &[u8]) -> Vec<Block<'_>> {
@@ -84,17 +73,10 @@ impl Found {
         self.note("a link and its inode", any(is_linked));
         self.note("an inode replaced", any(is_replaced));
         self.note("a link taken away", any(is_unlinked));
-        for (kind, name) in KINDS.into_iter().enumerate() {
+        // The second block's kind. The last has no time.
+        for (kind, &name) in KINDS[..7].iter().enumerate() {
             let is_kind = |pair: &&[Block<'_>]| usize::from(pair[1].id - INODE) == kind;
             self.note(name, equal.iter().any(is_kind));
-        }
-    }
-
-    /// Fails unless everything was found so often.
-    fn at_least(&self, least: u64) {
-        println!("{:#?}", self.0);
-        for (what, &count) in &self.0 {
-            assert!(count >= least, "{what}: {count}");
         }
     }
 }
@@ -144,11 +126,8 @@ fn read_on(volume: &[u8], mark: Bookmark) -> (Result<Reading<'_>, Refusal>, Book
 /// bookmarks, which alone decide whether a block that is sound is read.
 fn bookmarks(case: &Case, found: &mut Found) {
     for mark in &case.bookmarks {
-        let mark = Bookmark {
-            offset: mark.offset,
-            due: mark.due,
-            last: mark.last,
-        };
+        // The number has no part in this.
+        let mark = bookmark(mark).numbered(0);
         let free = Bookmark { last: None, ..mark };
         let (Ok(Reading::Block(block, _)), _) = read_on(&case.volume, free) else {
             continue;
