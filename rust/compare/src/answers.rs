@@ -73,10 +73,12 @@ pub fn reading(answer: &Result<Reading<'_>, Refusal>) -> sys::Block {
 fn block(block: &Block<'_>, next: &Bookmark) -> sys::Block {
     let common = sys::Block {
         id: u64::from(block.id),
+        number: block.number,
         next: next.offset,
         due: u64::from(next.due),
         timed: u64::from(next.last.is_some()),
         last: next.last.unwrap_or(0),
+        next_number: next.number,
         time: block.time.unwrap_or(0),
         ..Default::default()
     };
@@ -187,6 +189,7 @@ pub fn written(answer: Result<Bookmark, Refusal>) -> sys::Written {
             due: u64::from(mark.due),
             timed: u64::from(mark.last.is_some()),
             last: mark.last.unwrap_or(0),
+            number: mark.number,
             ..Default::default()
         },
         Err(refusal) => refused!(Written, refusal),

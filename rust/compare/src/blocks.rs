@@ -4,7 +4,7 @@ use hdrfs::sys;
 use independent::block::TABLE;
 use independent::{Bookmark, Reading};
 
-use crate::difference::{same, Answer, Difference};
+use crate::difference::{same, Difference};
 use crate::{answers, links};
 
 /// One reading. Numbers that mean "yes" are any but 0, and a last time beside "no" is not looked
@@ -15,7 +15,7 @@ pub fn read(volume: &[u8], mark: Bookmark, odd: u64) -> Result<sys::Block, Diffe
     let due = yes(mark.due, odd);
     let timed = yes(mark.last.is_some(), odd >> 2);
     let time = mark.last.unwrap_or(odd);
-    let proved = sys::read(volume, mark.offset, due, timed, time);
+    let proved = sys::read(volume, mark.offset, due, timed, time, mark.number);
     same(proved, expected, || {
         format!("read at {mark:?} with due {due}, timed {timed}, time {time}")
     })?;
@@ -34,7 +34,8 @@ fn yes(is: bool, odd: u64) -> u64 {
 }
 
 /// Whether it is a block that was read, and not the end or a refusal.
-fn is_block(answer: &sys::Block) -> bool {
+#[must_use]
+pub fn is_block(answer: &sys::Block) -> bool {
     answer.refusal == 0 && answer.end == 0
 }
 
@@ -57,27 +58,37 @@ pub fn after(block: &sys::Block) -> Bookmark {
         offset: block.next,
         due: block.due != 0,
         last: (block.timed != 0).then_some(block.last),
+        number: block.next_number,
     }
 }
 
-/// All blocks from the header on, each by the bookmark that the proved library gave for it. Answers
-/// how many have the time that is the last one before them.
-pub fn walk(volume: &[u8]) -> Answer {
+/// What was met on a walk over a volume.
+#[derive(Clone, Copy, Debug, Default)]
+pub struct Walked {
+    /// Blocks before the end or the fault, by the number of the bookmark there.
+    pub blocks: u64,
+    /// Those of them whose time is the last one before them.
+    pub equal: u64,
+}
+
+/// All blocks from the header on, each by the bookmark that the proved library gave for it.
+pub fn walk(volume: &[u8]) -> Result<Walked, Difference> {
     let heading = sys::header(volume);
     let mut mark = Bookmark {
         due: heading.due != 0,
         ..Bookmark::at(heading.next)
     };
-    let mut equal = 0;
+    let mut walked = Walked::default();
     if heading.refusal != 0 {
-        return Ok(equal);
+        return Ok(walked);
     }
     loop {
         let block = read(volume, mark, 0)?;
         if !is_block(&block) {
-            return Ok(equal);
+            return Ok(walked);
         }
-        equal += u64::from(is_at_last_time(&block, mark));
+        walked.equal += u64::from(is_at_last_time(&block, mark));
         mark = after(&block);
+        walked.blocks = mark.number;
     }
 }

@@ -1,8 +1,9 @@
 //! All questions of a case.
 
-use generator::{Case, Expected};
+use generator::number::FULL;
+use generator::{Case, Expected, Mark};
 use hdrfs::sys;
-use independent::Bookmark;
+use independent::{Bookmark, Reading};
 
 use crate::difference::{same, Difference};
 use crate::files::Inode;
@@ -38,7 +39,11 @@ fn whole(case: &Case, tally: &mut Tally) -> Result<(), Difference> {
     tally.header[volume::header(bytes)? as usize] += 1;
     tally.header[volume::header(&case.other)? as usize] += 1;
     as_made(case, &checked)?;
-    tally.equal[0] += blocks::walk(bytes)?;
+    let walked = blocks::walk(bytes)?;
+    same(walked.blocks, checked.blocks, || {
+        "blocks walked over".into()
+    })?;
+    tally.equal[0] += walked.equal;
     links::anywhere(bytes)
 }
 
@@ -59,26 +64,60 @@ fn as_made(case: &Case, checked: &sys::Checked) -> Result<(), Difference> {
     })
 }
 
-/// A reading by each bookmark. A table leaves the last time as it was, so the block behind it is read too.
+/// A bookmark of a case in the type of the independent implementation.
+fn bookmark(mark: &Mark) -> Bookmark {
+    Bookmark {
+        offset: mark.offset,
+        due: mark.due,
+        last: mark.last,
+        number: mark.number,
+    }
+}
+
+/// A reading by each bookmark. A table leaves the last time as it was, and a block may be the last
+/// that can be counted, so what is behind these is read too.
 fn marks(case: &Case, tally: &mut Tally) -> Result<(), Difference> {
     for (place, mark) in case.bookmarks.iter().enumerate() {
-        let mark = Bookmark {
-            offset: mark.offset,
-            due: mark.due,
-            last: mark.last,
-        };
+        let mark = bookmark(mark);
         let odd = case.seed.wrapping_add(place as u64);
-        let block = blocks::read(&case.volume, mark, odd)?;
-        tally.read[block.refusal as usize] += 1;
+        let block = reading(&case.volume, mark, odd, tally)?;
         tally.equal[1] += u64::from(blocks::is_at_last_time(&block, mark));
+        let next = blocks::after(&block);
+        let is_last = blocks::is_block(&block) && next.number == FULL;
+        if !blocks::is_table(&block) && !is_last {
+            continue;
+        }
+        let behind = reading(&case.volume, next, odd, tally)?;
         if blocks::is_table(&block) {
-            let mark = blocks::after(&block);
-            let behind = blocks::read(&case.volume, mark, odd)?;
-            tally.read[behind.refusal as usize] += 1;
-            tally.equal[2] += u64::from(blocks::is_at_last_time(&behind, mark));
+            tally.equal[2] += u64::from(blocks::is_at_last_time(&behind, next));
+        }
+        if is_last {
+            tally.last[0] += 1;
+            tally.last[1] += behind.end;
+            tally.last[2] += u64::from(behind.refusal == 9);
         }
     }
     Ok(())
+}
+
+/// One reading by a bookmark. A block that is only refused since it cannot be counted is a block at
+/// another number.
+fn reading(
+    volume: &[u8],
+    mark: Bookmark,
+    odd: u64,
+    tally: &mut Tally,
+) -> Result<sys::Block, Difference> {
+    let block = blocks::read(volume, mark, odd)?;
+    tally.read[block.refusal as usize] += 1;
+    if mark.number == FULL {
+        tally.full[block.refusal as usize] += 1;
+        let free = independent::read(volume, mark.numbered(0));
+        if let (9, Ok(Reading::Block(free, _))) = (block.refusal, free) {
+            tally.uncounted[usize::from(free.id) - 1] += 1;
+        }
+    }
+    Ok(block)
 }
 
 fn positions(case: &Case, inode: &Inode<'_>, tally: &mut Tally) -> Result<(), Difference> {
@@ -108,6 +147,10 @@ fn ranges(case: &Case, inode: &Inode<'_>, tally: &mut Tally) -> Result<(), Diffe
 pub fn typed(case: &Case, most: u64) -> Result<u64, Difference> {
     volume::typed(&case.volume)?;
     steps::blocks(&case.volume)?;
+    for mark in &case.bookmarks {
+        steps::blocks_at(&case.volume, bookmark(mark))?;
+    }
+    items::first_positions(&case.volume, &case.lengths)?;
     let mut runs = 0;
     for &offset in &case.inode_offsets {
         let asked = Asked::new(&case.volume, offset, &case.lengths, most);

@@ -1,6 +1,6 @@
 //! The runs of files as the iterator gives them.
 
-use hdrfs::{File, Lengths, Logical, Refusal, Run, Runs};
+use hdrfs::{File, Lengths, Logical, Refusal, Run, Runs, Volume};
 
 use crate::difference::{same, same_list, Difference};
 
@@ -14,15 +14,12 @@ pub struct Asked<'a> {
 }
 
 impl<'a> Asked<'a> {
-    /// Bytes of lengths beyond the last whole entry are left out: the type cannot have them.
     #[must_use]
     pub fn new(volume: &'a [u8], offset: u64, lengths: &[u8], most: u64) -> Asked<'a> {
-        let entries = lengths.chunks_exact(8);
-        let entry = |bytes: &[u8]| u64::from_le_bytes(bytes.try_into().expect("eight bytes"));
         Asked {
             volume,
             offset,
-            lengths: entries.map(entry).collect(),
+            lengths: whole_entries(lengths),
             most,
         }
     }
@@ -91,6 +88,13 @@ impl<'a> Asked<'a> {
     }
 }
 
+/// Bytes of lengths beyond the last whole entry are left out: the type cannot have them.
+fn whole_entries(lengths: &[u8]) -> Lengths {
+    let entries = lengths.chunks_exact(8);
+    let entry = |bytes: &[u8]| u64::from_le_bytes(bytes.try_into().expect("eight bytes"));
+    entries.map(entry).collect()
+}
+
 /// A run from its five numbers.
 pub(crate) fn typed(numbers: &[u64]) -> Run {
     Run {
@@ -108,17 +112,35 @@ pub fn position(asked: &Asked<'_>, position: u64) -> Result<(), Difference> {
     let place = asked.file().position(Logical(position));
     let lengths = asked.lengths.as_bytes();
     let expected = independent::lookup(asked.volume, asked.offset, lengths, position);
-    let expected = expected.map(|place| match place {
+    let offset = asked.offset;
+    let refused = |number| Refusal::new(number, offset);
+    same(place, expected.map(placed).map_err(refused), || {
+        format!("File::position {position} at {offset}")
+    })
+}
+
+/// The first position of each block of a volume as a file. Unlike where only an offset is given, a
+/// refusal says which block it is.
+pub fn first_positions(volume: &[u8], lengths: &[u8]) -> Result<(), Difference> {
+    let lengths = whole_entries(lengths);
+    for block in Volume::blocks(volume).flatten() {
+        let place = File::of_block(volume, &block, &lengths).position(Logical(0));
+        let expected = independent::lookup(volume, block.offset, lengths.as_bytes(), 0);
+        let refused = |number| Refusal::new(number, block.offset).with_block(Some(block.number));
+        same(place, expected.map(placed).map_err(refused), || {
+            format!("File::of_block {} at {}", block.number, block.offset)
+        })?;
+    }
+    Ok(())
+}
+
+fn placed(place: independent::Place) -> hdrfs::Place {
+    match place {
         independent::Place::Hole => hdrfs::Place::Hole,
         independent::Place::PastEnd => hdrfs::Place::PastEnd,
         independent::Place::Stored { volume, offset } => hdrfs::Place::Stored(hdrfs::Stored {
             volume,
             offset: hdrfs::Physical(offset),
         }),
-    });
-    let offset = asked.offset;
-    let expected = expected.map_err(|number| Refusal::new(number, offset));
-    same(place, expected, || {
-        format!("File::position {position} at {offset}")
-    })
+    }
 }

@@ -19,6 +19,33 @@ pub enum Request {
 }
 
 impl Request {
+    /// The kinds, by [`Request::kind`].
+    pub const KINDS: [&str; 8] = [
+        "inode",
+        "link",
+        "unlink",
+        "xattr",
+        "removed xattr",
+        "data",
+        "rename",
+        "table",
+    ];
+
+    /// Which of [`Request::KINDS`] it is.
+    #[must_use]
+    pub fn kind(&self) -> usize {
+        match self {
+            Request::Inode(..) => 0,
+            Request::Link(..) => 1,
+            Request::Unlink(..) => 2,
+            Request::Xattr(..) => 3,
+            Request::RemovedXattr(..) => 4,
+            Request::Data(..) => 5,
+            Request::Rename(..) => 6,
+            Request::Table(..) => 7,
+        }
+    }
+
     /// The time that it asks for; a table has none.
     pub fn time_mut(&mut self) -> Option<&mut u64> {
         match self {

@@ -1,6 +1,6 @@
 //! Blocks and links as the iterators give them.
 
-use hdrfs::{Content, Inode, LinkTable, Refusal, Volume};
+use hdrfs::{Blocks, Content, Inode, LinkTable, Refusal, Volume};
 use independent::links::{Link, Links};
 use independent::{Block, Body, Bookmark, Part, Reading, Stat};
 
@@ -12,10 +12,12 @@ type Step<'a> = Result<(Block<'a>, Bookmark), Refusal>;
 
 /// All items of [`Volume::blocks`].
 pub fn blocks(volume: &[u8]) -> Result<(), Difference> {
-    let proved: Vec<Step<'_>> = Volume::blocks(volume)
-        .map(|item| item.map(|block| step(volume, &block)))
-        .collect();
-    same_list(&proved, &expected(volume), || "Volume::blocks".into())?;
+    let expected = match independent::read_header(volume) {
+        Ok(header) => expected(volume, header.next),
+        Err(number) => vec![Err(Refusal::new(number, 0))],
+    };
+    let proved = steps(volume, Volume::blocks(volume));
+    same_list(&proved, &expected, || "Volume::blocks".into())?;
     let found = Volume::blocks(volume).flatten();
     for block in found {
         if let Content::LinkTable(table) = block.content {
@@ -25,13 +27,25 @@ pub fn blocks(volume: &[u8]) -> Result<(), Difference> {
     Ok(())
 }
 
+/// All items of [`Blocks::at`] a bookmark.
+pub fn blocks_at(volume: &[u8], mark: Bookmark) -> Result<(), Difference> {
+    let from = hdrfs::Bookmark::at(mark.offset)
+        .with_table_due(mark.due)
+        .with_last_time(mark.last)
+        .with_number(mark.number);
+    let proved = steps(volume, Blocks::at(volume, from));
+    let question = || format!("Blocks::at {mark:?}");
+    same_list(&proved, &expected(volume, mark), question)
+}
+
+fn steps<'a>(volume: &'a [u8], blocks: Blocks<'a>) -> Vec<Step<'a>> {
+    blocks
+        .map(|item| item.map(|block| step(volume, &block)))
+        .collect()
+}
+
 /// The same by the independent implementation.
-fn expected(volume: &[u8]) -> Vec<Step<'_>> {
-    let refused = |number, offset| Err(Refusal::new(number, offset));
-    let mut mark = match independent::read_header(volume) {
-        Ok(header) => header.next,
-        Err(number) => return vec![refused(number, 0)],
-    };
+fn expected(volume: &[u8], mut mark: Bookmark) -> Vec<Step<'_>> {
     let mut steps = Vec::new();
     loop {
         match independent::read(volume, mark) {
@@ -41,7 +55,8 @@ fn expected(volume: &[u8]) -> Vec<Step<'_>> {
                 mark = next;
             }
             Err(number) => {
-                steps.push(refused(number, mark.offset));
+                let refusal = Refusal::new(number, mark.offset);
+                steps.push(Err(refusal.with_block(Some(mark.number))));
                 return steps;
             }
         }
@@ -53,6 +68,7 @@ fn step<'a>(volume: &'a [u8], block: &hdrfs::Block<'a>) -> (Block<'a>, Bookmark)
     let time = block.time;
     let found = Block {
         id: block.id as u8,
+        number: block.number,
         offset: block.offset,
         length: block.len(),
         time,

@@ -8,6 +8,13 @@ pub type Numbers = [u64; LARGEST + 1];
 /// How blocks with a last time before them are come to.
 pub const WAYS: [&str; 3] = ["from the header on", "by a bookmark", "behind a table"];
 
+/// What comes at the last number after which there is another.
+pub const LAST: [&str; 3] = [
+    "a block that is the last to be counted",
+    "the end behind it",
+    "9 behind it",
+];
+
 /// The calls, each with the refusal numbers that it can give.
 macro_rules! tally {
     ($($call:ident: $possible:expr;)*) => {
@@ -19,6 +26,10 @@ macro_rules! tally {
             pub kinds: [u64; 3],
             /// Blocks read at the very last time before them, in each of [`WAYS`].
             pub equal: [u64; 3],
+            /// Blocks refused with 9 since one block more cannot be counted, by their IDs from 1 on.
+            pub uncounted: [u64; 8],
+            /// Readings at the number before, and behind them, as in [`LAST`].
+            pub last: [u64; 3],
         }
 
         impl Tally {
@@ -27,6 +38,8 @@ macro_rules! tally {
                 $(add(&mut self.$call, &other.$call);)*
                 add(&mut self.kinds, &other.kinds);
                 add(&mut self.equal, &other.equal);
+                add(&mut self.uncounted, &other.uncounted);
+                add(&mut self.last, &other.last);
             }
 
             /// The calls with what was counted of them and what can occur.
@@ -40,6 +53,8 @@ macro_rules! tally {
                 let mut tally = Tally {
                     kinds: [1; 3],
                     equal: [1; 3],
+                    uncounted: [1; 8],
+                    last: [1; 3],
                     ..Tally::default()
                 };
                 $(for number in $possible {
@@ -53,11 +68,12 @@ macro_rules! tally {
 
 // 18 cannot occur, since a kept byte needs a block of at least one byte. A lookup reads no header and
 // has no table due and no last time, so 3, 4, 6, 13 and 14 stay out; a reading by a bookmark reads no
-// header either.
+// header either. `full` has the readings at the largest number, where 0 is the end and no block.
 tally! {
     check: [0, 1, 2, 3, 4, 5, 6, 7, 8, 9, 10, 11, 12, 13, 14];
     header: [0, 1, 2, 3, 4, 5, 6];
     read: [0, 1, 2, 5, 7, 8, 9, 10, 11, 12, 13, 14];
+    full: [0, 1, 2, 5, 7, 8, 9, 10, 11, 12, 13, 14];
     lookup: [0, 1, 2, 5, 7, 8, 9, 10, 11, 12, 15, 16];
     runs: [0, 1, 2, 5, 7, 8, 9, 10, 11, 12, 15, 16, 17];
     fetch: [0, 1, 2, 3, 4, 5, 6, 16];
@@ -85,6 +101,16 @@ impl Tally {
                 faults.push(format!("read: no equal time {way}"));
             }
         }
+        for (id, &count) in (1..).zip(&self.uncounted) {
+            if count == 0 {
+                faults.push(format!("read: no block {id} that cannot be counted"));
+            }
+        }
+        for (what, count) in LAST.iter().zip(self.last) {
+            if count == 0 {
+                faults.push(format!("read: not {what}"));
+            }
+        }
         faults
     }
 
@@ -105,6 +131,10 @@ impl Tally {
         text += &format!("\nholes {holes}, stored {stored}, past end {past_end}");
         for (way, count) in WAYS.iter().zip(self.equal) {
             text += &format!("\nequal times {way}: {count}");
+        }
+        text += &format!("\nnot to be counted, by ID: {:?}", self.uncounted);
+        for (what, count) in LAST.iter().zip(self.last) {
+            text += &format!("\n{what}: {count}");
         }
         text
     }
@@ -135,9 +165,15 @@ mod tests {
         let mut less = Tally::full();
         less.runs[17] = 0;
         less.equal[2] = 0;
+        less.full[9] = 0;
+        less.uncounted[7] = 0;
+        less.last[1] = 0;
         let missing = [
+            "full: answer 9 came 0 times",
             "runs: answer 17 came 0 times",
             "read: no equal time behind a table",
+            "read: no block 8 that cannot be counted",
+            "read: not the end behind it",
         ];
         assert_eq!(less.faults(), missing);
         let mut more = Tally::full();
@@ -145,7 +181,7 @@ mod tests {
         assert_eq!(more.faults(), ["lookup: answer 18 came 3 times"]);
         assert_eq!(
             Tally::default().faults().len(),
-            15 + 7 + 12 + 12 + 13 + 8 + 3 + 3
+            15 + 7 + 12 + 12 + 12 + 13 + 8 + 3 + 3 + 8 + 3
         );
     }
 }

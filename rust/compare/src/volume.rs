@@ -1,7 +1,7 @@
 //! The check of a whole volume, and its header.
 
 use hdrfs::sys;
-use hdrfs::{ArchiveError, Checker, Volume};
+use hdrfs::{ArchiveError, Checker, Refusal, Volume};
 use independent::Verdict;
 
 use crate::answers;
@@ -30,21 +30,23 @@ pub fn header(volume: &[u8]) -> Answer {
     Ok(expected.refusal)
 }
 
+/// A verdict, and the number of the block at fault if there is one.
+type Told = (Verdict, Option<u64>);
+
 /// The check and the header by the calls that give Rust types.
 pub fn typed(volume: &[u8]) -> Result<(), Difference> {
     let checked = match Volume::check(volume) {
-        Ok(checked) => Verdict::Accepted {
-            sequence: checked.sequence(),
-            blocks: checked.block_count(),
-            end: bookmark(checked.end()),
-        },
-        Err(rejected) => Verdict::Refused {
-            number: rejected.refusal.number,
-            offset: rejected.refusal.offset,
-            blocks: rejected.blocks,
-        },
+        Ok(checked) => {
+            let verdict = Verdict::Accepted {
+                sequence: checked.sequence(),
+                blocks: checked.block_count(),
+                end: bookmark(checked.end()),
+            };
+            (verdict, None)
+        }
+        Err(rejected) => refused(rejected.refusal, rejected.blocks),
     };
-    let expected = independent::check(volume);
+    let expected = told(independent::check(volume));
     same(checked, expected, || "Volume::check".into())?;
     same(walked(volume), expected, || "Checker::bytes".into())?;
     let heading = Volume::header(volume)
@@ -54,23 +56,47 @@ pub fn typed(volume: &[u8]) -> Result<(), Difference> {
     same(heading, expected, || "Volume::header".into())
 }
 
+/// What the independent verdict says of the block at fault.
+fn told(verdict: Verdict) -> Told {
+    let block = match verdict {
+        Verdict::Accepted { .. } => None,
+        Verdict::Refused { offset, blocks, .. } => block_at_fault(offset, blocks),
+    };
+    (verdict, block)
+}
+
+/// A refusal of a whole volume by the proved library.
+fn refused(refusal: Refusal, blocks: u64) -> Told {
+    let verdict = Verdict::Refused {
+        number: refusal.number,
+        offset: refusal.offset,
+        blocks,
+    };
+    (verdict, refusal.block)
+}
+
+/// The number of the block at fault, from its offset and the number of blocks before it. The header
+/// has none.
+pub(crate) fn block_at_fault(offset: u64, blocks: u64) -> Option<u64> {
+    (offset > 0).then_some(blocks)
+}
+
 /// What the walk says that an archive makes over its volumes.
-fn walked(volume: &[u8]) -> Verdict {
+fn walked(volume: &[u8]) -> Told {
     match Checker::new().bytes("", volume.to_vec()) {
-        Ok(member) => Verdict::Accepted {
-            sequence: member.sequence(),
-            blocks: member.block_count(),
-            end: bookmark(member.end()),
-        },
+        Ok(member) => {
+            let verdict = Verdict::Accepted {
+                sequence: member.sequence(),
+                blocks: member.block_count(),
+                end: bookmark(member.end()),
+            };
+            (verdict, None)
+        }
         Err(ArchiveError::Refused {
             refusal,
             blocks: Some(blocks),
             ..
-        }) => Verdict::Refused {
-            number: refusal.number,
-            offset: refusal.offset,
-            blocks,
-        },
+        }) => refused(refusal, blocks),
         Err(other) => unreachable!("{other}"),
     }
 }
@@ -81,5 +107,6 @@ pub(crate) fn bookmark(mark: hdrfs::Bookmark) -> independent::Bookmark {
         offset: mark.offset,
         due: mark.table_due,
         last: mark.last_time,
+        number: mark.number,
     }
 }

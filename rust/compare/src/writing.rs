@@ -1,7 +1,7 @@
 //! Appends and header writers: the answer, and every byte of the buffer.
 
 use generator::rng::Rng;
-use generator::time;
+use generator::{number, time};
 use hdrfs::sys::{self, Written};
 use independent::{self as plain, Bookmark, Refusal};
 
@@ -23,6 +23,13 @@ pub fn append(
     same(written, answers::written(expected), question)?;
     same_list(buffer, &other, question)?;
     Ok((written.refusal, expected.unwrap_or(mark)))
+}
+
+/// What the independent implementation would refuse the append with if no block were before the
+/// bookmark; 0 for nothing.
+pub fn refusal_from_0(buffer: &[u8], mark: Bookmark, request: &Request) -> u64 {
+    let answer = independently(&mut buffer.to_vec(), mark.numbered(0), request);
+    answer.err().unwrap_or(0)
 }
 
 /// Writes a header with both.
@@ -53,15 +60,16 @@ pub fn made_up(rng: &mut Rng, room: usize, time: Option<u64>) -> Bookmark {
         offset,
         due: rng.once_in(3),
         last,
+        number: number::made_up(rng),
     }
 }
 
 fn proved(buf: &mut [u8], mark: Bookmark, request: &Request) -> Written {
-    let (offset, due) = (mark.offset, u64::from(mark.due));
+    let (offset, due, number) = (mark.offset, u64::from(mark.due), mark.number);
     let (timed, last) = (u64::from(mark.last.is_some()), mark.last.unwrap_or(0));
     macro_rules! append {
         ($call:ident($($field:expr),*)) => {
-            sys::$call(buf, offset, due, timed, last, $($field),*)
+            sys::$call(buf, offset, due, timed, last, number, $($field),*)
         };
     }
     match request {

@@ -2,10 +2,12 @@
 //! what was written is a volume that both accept where no table is due.
 #![forbid(unsafe_code)]
 
+use compare::blocks;
 use compare::requests::{request, Request};
 use compare::seeds::{Seeds, USUAL};
 use compare::tally::Numbers;
-use compare::writing::{append, header, made_up};
+use compare::writing::{append, header, made_up, refusal_from_0};
+use generator::number::FULL;
 use generator::rng::Rng;
 use generator::time;
 use hdrfs::sys;
@@ -24,6 +26,12 @@ struct Counts {
     /// lower. First those of lists, then those at made-up bookmarks.
     equal: [u64; 2],
     one_lower: [u64; 2],
+    /// Answers at the largest number, by the kind of request.
+    full: [Numbers; 8],
+    /// What would have been told in place of 9 if there were another number.
+    instead: Numbers,
+    /// Lists with blocks up to the largest number.
+    filled: u64,
 }
 
 impl Counts {
@@ -35,6 +43,14 @@ impl Counts {
         self.equal[kind] += u64::from(number == 0 && time == last);
         let one_lower = time.checked_add(1) == Some(last);
         self.one_lower[kind] += u64::from(number == 14 && one_lower);
+    }
+
+    /// Notes an answer at the largest number; nothing was written to the buffer.
+    fn note_full(&mut self, buffer: &[u8], mark: Bookmark, asked: &Request, number: u64) {
+        self.full[asked.kind()][number as usize] += 1;
+        if number == 9 {
+            self.instead[refusal_from_0(buffer, mark, asked) as usize] += 1;
+        }
     }
 }
 
@@ -64,33 +80,60 @@ fn headers(rng: &mut Rng, counts: &mut Counts) -> Result<(), String> {
     Ok(())
 }
 
+/// One append, first of a list or then at a made-up bookmark. Answers the bookmark after it.
+fn ask(
+    counts: &mut Counts,
+    kind: usize,
+    buffer: &mut [u8],
+    mark: Bookmark,
+    asked: &mut Request,
+) -> Result<Bookmark, String> {
+    let time = asked.time_mut().copied();
+    let (number, next) = append(buffer, mark, asked).map_err(|d| d.to_string())?;
+    counts.note(kind, mark, time, number);
+    if mark.number == FULL {
+        counts.note_full(buffer, mark, asked, number);
+    }
+    Ok(next)
+}
+
+/// A list of appends, each tried at a made-up bookmark too. Some come to the largest number.
 fn list(rng: &mut Rng, counts: &mut Counts) -> Result<(), String> {
     let sequence = rng.below(3);
     let room = 80 + rng.index(4_000);
     let mut buffer = rng.bytes(room);
     let previous = [(sequence > 0) as u8; 32];
     header(&mut buffer, &[7; 16], sequence, &previous).map_err(|d| d.to_string())?;
+    let first = match rng.below(4) {
+        0 => FULL - rng.below(8),
+        _ => 0,
+    };
     let mut mark = Bookmark {
         due: sequence > 0,
-        ..Bookmark::at(80)
+        ..Bookmark::at(80).numbered(first)
     };
     for _ in 0..rng.below(30) {
         let mut asked = request(rng);
         let time = set_time(rng, mark.last, &mut asked);
-        let (number, next) = append(&mut buffer, mark, &asked).map_err(|d| d.to_string())?;
-        counts.note(0, mark, time, number);
-        mark = next;
+        mark = ask(counts, 0, &mut buffer, mark, &mut asked)?;
         let elsewhere = made_up(rng, room, time);
-        let mut copy = buffer.clone();
-        let (number, _) = append(&mut copy, elsewhere, &asked).map_err(|d| d.to_string())?;
-        counts.note(1, elsewhere, time, number);
+        ask(counts, 1, &mut buffer.clone(), elsewhere, &mut asked)?;
     }
     if !mark.due {
         let volume = &buffer[..mark.offset as usize];
+        let blocks = mark.number - first;
         let checked = sys::check(volume);
-        assert_eq!((checked.refusal, checked.offset), (0, mark.offset));
+        let told = (checked.refusal, checked.offset, checked.blocks);
+        assert_eq!(told, (0, mark.offset, blocks));
+        let read = blocks::read(volume, mark, 0).map_err(|d| d.to_string())?;
+        assert_eq!(read.end, 1);
+        counts.filled += u64::from(mark.number == FULL && blocks > 0);
     }
     Ok(())
+}
+
+fn sum(counted: &[Counts], of: impl Fn(&Counts) -> u64) -> u64 {
+    counted.iter().map(of).sum()
 }
 
 #[test]
@@ -102,11 +145,10 @@ fn appends_agree() {
         list(&mut rng, counts).map_err(|told| format!("seed {seed}: {told}"))
     });
     let counted = counted.unwrap_or_else(|told| panic!("{told}"));
-    let sum = |of: &dyn Fn(&Counts) -> u64| -> u64 { counted.iter().map(of).sum() };
     let enough = asked.count >= USUAL;
     for number in 0..=LARGEST {
-        let appends = sum(&|counts| counts.append[number]);
-        let headers = sum(&|counts| counts.header[number]);
+        let appends = sum(&counted, |counts| counts.append[number]);
+        let headers = sum(&counted, |counts| counts.header[number]);
         println!("{number}: {appends} appends, {headers} headers");
         assert!(appends == 0 || APPEND.contains(&number));
         assert!(headers == 0 || HEADER.contains(&number));
@@ -116,9 +158,39 @@ fn appends_agree() {
         }
     }
     for (kind, name) in ["lists", "made-up bookmarks"].into_iter().enumerate() {
-        let equal = sum(&|counts| counts.equal[kind]);
-        let one_lower = sum(&|counts| counts.one_lower[kind]);
+        let equal = sum(&counted, |counts| counts.equal[kind]);
+        let one_lower = sum(&counted, |counts| counts.one_lower[kind]);
         println!("{name}: {equal} at the last time, {one_lower} one lower");
         assert!(equal > 1_000 && one_lower > 1_000 || !enough, "{name}");
     }
+    report_full(&counted, enough);
+}
+
+/// At the largest number a wrong place is told, and nothing else before 9.
+fn report_full(counted: &[Counts], enough: bool) {
+    for (kind, name) in Request::KINDS.into_iter().enumerate() {
+        let told = |number: usize| sum(counted, |counts| counts.full[kind][number]);
+        println!("full: {name}, {} with 8, {} with 9", told(8), told(9));
+        for number in 0..=LARGEST {
+            let possible = [8, 9].contains(&number);
+            assert!(told(number) == 0 || possible, "{name}, {number}");
+            assert!(
+                told(number) > 100 || !possible || !enough,
+                "{name}, {number}"
+            );
+        }
+    }
+    for number in 0..=LARGEST {
+        let instead = sum(counted, |counts| counts.instead[number]);
+        println!("full: 9 in place of {number}: {instead}");
+        let possible = number != 8 && APPEND.contains(&number);
+        assert!(instead == 0 || possible, "9 in place of {number}");
+        assert!(
+            instead > 0 || !possible || !enough,
+            "9 in place of {number}"
+        );
+    }
+    let filled = sum(counted, |counts| counts.filled);
+    println!("full: {filled} lists");
+    assert!(filled > 100 || !enough, "{filled} lists");
 }

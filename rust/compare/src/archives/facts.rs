@@ -4,11 +4,12 @@ use std::ops::RangeInclusive;
 
 use hdrfs::{CurrentInode, Member, Multiplicity};
 use independent::extent::extents;
-use independent::{check, read_header, Extent, Inode, LastLink, Verdict};
+use independent::{check, read_header, Bookmark, Extent, Inode, LastLink, Verdict};
 
 use super::opening::Both;
 use super::reading::failed;
 use crate::difference::{same, same_list, Difference};
+use crate::volume::bookmark;
 
 /// Compares everything but the files' bytes. Answers how many inodes there are.
 ///
@@ -130,19 +131,17 @@ fn plain(extent: &hdrfs::Extent) -> Extent {
     }
 }
 
-/// Sequence number, ID, previous hash, length, blocks, and end with the last time.
-type Volume = (u64, [u8; 16], [u8; 32], u64, u64, u64, Option<u64>);
+/// Sequence number, ID, previous hash, length, blocks, and the end.
+type Volume = (u64, [u8; 16], [u8; 32], u64, u64, Bookmark);
 
 fn member(member: &Member) -> Volume {
-    let end = member.end();
     (
         member.sequence(),
         member.id(),
         member.previous(),
         member.len(),
         member.block_count(),
-        end.offset,
-        end.last_time,
+        bookmark(member.end()),
     )
 }
 
@@ -157,8 +156,7 @@ fn volume(bytes: &[u8]) -> Volume {
         *header.previous,
         bytes.len() as u64,
         blocks,
-        end.offset,
-        end.last,
+        end,
     )
 }
 
@@ -167,6 +165,7 @@ fn volume(bytes: &[u8]) -> Volume {
 struct Fields {
     number: u64,
     volume: u64,
+    block: u64,
     offset: u64,
     block_len: u64,
     size: u64,
@@ -179,6 +178,7 @@ fn current(inode: &CurrentInode) -> Fields {
     Fields {
         number: inode.number,
         volume: inode.volume,
+        block: inode.block,
         offset: inode.offset,
         block_len: inode.block_len,
         size: inode.size,
@@ -199,6 +199,7 @@ fn inode(inode: &Inode<'_>) -> Fields {
     Fields {
         number: stat.inode,
         volume: inode.volume,
+        block: inode.block,
         offset: inode.offset,
         block_len: 75 + inode.variable.bytes.len() as u64,
         size: stat.size,

@@ -9,6 +9,7 @@ use hdrfs::{check_each, ArchiveError, Checker};
 use independent::{check, set_faults, Set, SetFault, Verdict};
 
 use crate::difference::{same, same_list, Difference};
+use crate::volume::{block_at_fault, bookmark};
 
 /// A set by both sides.
 pub struct Both<'a> {
@@ -93,7 +94,11 @@ pub fn verdicts(
     let mut given = Vec::new();
     let _: ControlFlow<()> = check_each(paths, jobs, |_, checked| {
         given.push(match checked {
-            Ok(member) => Ok((member.sequence(), member.block_count())),
+            Ok(member) => Ok((
+                member.sequence(),
+                member.block_count(),
+                bookmark(member.end()),
+            )),
             Err(error) => Err(fault(&error)),
         });
         ControlFlow::Continue(())
@@ -104,8 +109,10 @@ pub fn verdicts(
         .enumerate()
         .map(|(place, volume)| match check(volume) {
             Verdict::Accepted {
-                sequence, blocks, ..
-            } => Ok((sequence, blocks)),
+                sequence,
+                blocks,
+                end,
+            } => Ok((sequence, blocks, end)),
             Verdict::Refused {
                 number,
                 offset,
@@ -159,7 +166,8 @@ pub fn compare<'a>(
     }
 }
 
-/// The fault of a set that an error is. Two volumes may be named in any order.
+/// The fault of a set that an error is: none if it names another block than the one at fault. Two
+/// volumes may be named in any order.
 fn fault(error: &ArchiveError) -> Option<SetFault> {
     let pair = |first: &Path, second: &Path| {
         let (first, second) = (place(first)?, place(second)?);
@@ -169,12 +177,12 @@ fn fault(error: &ArchiveError) -> Option<SetFault> {
         ArchiveError::Refused {
             path,
             refusal,
-            blocks,
-        } => SetFault::Refused {
+            blocks: Some(blocks),
+        } if refusal.block == block_at_fault(refusal.offset, *blocks) => SetFault::Refused {
             place: place(path)?,
             number: refusal.number,
             offset: refusal.offset,
-            blocks: (*blocks)?,
+            blocks: *blocks,
         },
         ArchiveError::TwoFileSystems { first, second } => {
             let (first, second) = pair(first, second)?;

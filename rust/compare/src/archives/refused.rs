@@ -2,7 +2,7 @@
 
 use std::path::Path;
 
-use hdrfs::{ArchiveError, Missing};
+use hdrfs::{ArchiveError, Missing, Refusal};
 use independent::{FileRefusal, Lacking};
 
 use super::opening::Both;
@@ -46,7 +46,7 @@ pub(super) fn reason(error: &ArchiveError, asked: u64, both: &Both<'_>) -> Reaso
             path,
             refusal,
             blocks: None,
-        } if is_at(both, asked, path, refusal.offset) => Reason::Number(refusal.number),
+        } if is_at(both, asked, path, refusal) => Reason::Number(refusal.number),
         ArchiveError::Missing(Missing {
             inode,
             volumes,
@@ -67,11 +67,12 @@ pub(super) fn reason(error: &ArchiveError, asked: u64, both: &Both<'_>) -> Reaso
     }
 }
 
-/// Whether the current inode block of a number stands there.
-fn is_at(both: &Both<'_>, number: u64, path: &Path, offset: u64) -> bool {
+/// Whether a refusal is about the current inode block of a number.
+fn is_at(both: &Both<'_>, number: u64, path: &Path, refusal: &Refusal) -> bool {
     let inode = both.independent.inodes().get(&number);
     inode.is_some_and(|inode| {
         let member = both.proved.volume(inode.volume);
-        inode.offset == offset && member.is_some_and(|member| member.path() == path)
+        let same_block = (inode.offset, Some(inode.block)) == (refusal.offset, refusal.block);
+        same_block && member.is_some_and(|member| member.path() == path)
     })
 }
