@@ -1,4 +1,6 @@
-// What the sample programs share: words and numbers on standard output, and files read whole.
+// What the sample programs share: words, numbers, bookmarks and readings on standard output, and files read whole.
+pub mod bookmarks;
+
 use libc::STDOUT_FILENO;
 ghost use Rattle.io.specs.Counts.{Counts};
 
