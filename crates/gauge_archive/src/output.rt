@@ -8,7 +8,7 @@ use volume::Verdict;
 fn print_accepted(v: Accepted) {
     print_pair(b"volume ", v.sequence);
     print_pair(b": ", v.end.offset as u64);
-    print_pair(b" bytes, accepted, ", v.blocks);
+    print_pair(b" bytes, accepted, ", v.end.number);
     print_word(b" blocks\n");
 }
 

@@ -43,6 +43,7 @@ pub fn begin(buf: &mut [u8], sequence: u64, previous: &[u8]) -> Bookmark {
         offset: 0,
         due: false,
         last: LastTime::Never,
+        number: 0,
     };
     let answer = volume::heading::write_header(buf, b"gauge at a river", sequence, previous);
     onward(nowhere, answer)
