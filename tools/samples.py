@@ -1,12 +1,13 @@
 #!/usr/bin/env python3
 """Makes the sample volumes that the sample programs read, and what the programs must print of them.
 
-The answers come from the small reader below, which is written from the rules alone and shares nothing with the library.
+The answers come from the small reader and writer below, which are written from the rules alone and share nothing with the
+library.
 Run it from the top of the repository after a change to the list of samples; the files it writes are kept in the repository.
 """
-import itertools
 import pathlib
 import struct
+import typing
 import zlib
 
 LIMIT = 16_777_216
@@ -49,9 +50,10 @@ def rename(time, old, new):
     return sealed(b"\x07" + struct.pack("<QHH", time, len(old), len(new)) + old + new)
 
 
-def table(links):
+def table(links, count=None):
+    """A count that is not that of the links makes a block that no reader takes."""
     body = b"".join(struct.pack("<QQH", child, parent, len(name)) + name for child, parent, name in links)
-    return sealed(b"\x08" + struct.pack("<Q", len(links)) + body)
+    return sealed(b"\x08" + struct.pack("<Q", len(links) if count is None else count) + body)
 
 
 def extent(volume=0, start=0, size=0, multiplicity=67, count=1, pre=0, post=0, logical=0):
@@ -195,26 +197,42 @@ def read_block(v, offset, due, last):
     return 0, offset + end + 4, time
 
 
-# a bookmark: offset, whether a table is due, and the last time, None where there was none
+class Mark(typing.NamedTuple):
+    """A bookmark; the last time is None where there was none."""
+    offset: int
+    due: bool
+    last: int | None
+    number: int
+
+    def __str__(self):
+        due = ", table due" if self.due else ""
+        last = "no last time" if self.last is None else f"last time {self.last}"
+        return f"{self.offset}{due}, {last}, number {self.number}"
+
 
 def first_mark(v):
-    return 80, v[36:44] != bytes(8), None
+    return Mark(80, v[36:44] != bytes(8), None, 0)
 
 
 def next_mark(mark, end, time):
-    """After a block nothing is due; a table has no time and leaves the last one as it was."""
-    return end, False, mark[2] if time is None else time
+    """After a block nothing is due, and it is counted; a table has no time and leaves the last one as it was."""
+    return Mark(end, False, mark.last if time is None else time, mark.number + 1)
 
 
-def with_last(mark):
-    return f"{mark[0]}, no last time" if mark[2] is None else f"{mark[0]}, last time {mark[2]}"
+def read(v, mark):
+    """The refusal or 0, and the bookmark after the block; None at a refusal and at the end. The number is looked at last."""
+    fault, end, time = read_block(v, mark.offset, mark.due, mark.last)
+    if end is None:
+        return fault, None
+    if mark.number == TOP:
+        return 9, None
+    return 0, next_mark(mark, end, time)
 
 
 def walk(v, mark):
-    """Each bookmark from this one on, with the refusal or 0, and the one after the block; None at a refusal and at the end."""
+    """Each bookmark from this one on, with what reading there gives, until the end or a refusal."""
     while mark:
-        fault, end, time = read_block(v, *mark)
-        after = None if end is None else next_mark(mark, end, time)
+        fault, after = read(v, mark)
         yield mark, fault, after
         mark = after
 
@@ -223,23 +241,48 @@ def check(v):
     fault = header_fault(v)
     if fault:
         return f"refused {fault} at 0 after 0 blocks"
-    for blocks, (mark, fault, after) in enumerate(walk(v, first_mark(v))):
+    for mark, fault, after in walk(v, first_mark(v)):
         if fault:
-            return f"refused {fault} at {mark[0]} after {blocks} blocks"
+            return f"refused {fault} at {mark.offset} after {mark.number} blocks"
         if after is None:
-            return f"accepted, volume {int.from_bytes(v[36:44], 'little')}, {blocks} blocks, end {with_last(mark)}"
+            return f"accepted, volume {int.from_bytes(v[36:44], 'little')}, end {mark}"
 
 
 def listed(v):
     """The lines of the listing of a volume whose header is sound."""
     yield "offset id length"
-    for blocks, (mark, fault, after) in enumerate(walk(v, first_mark(v))):
+    for mark, fault, after in walk(v, first_mark(v)):
         if fault:
-            yield f"refused {fault} at {mark[0]}"
+            yield f"refused {fault} at {mark.offset}"
         elif after is None:
-            yield f"end {mark[0]} blocks {blocks}"
+            yield f"end {mark.offset} blocks {mark.number}"
         else:
-            yield f"{mark[0]} {v[mark[0]]} {after[0] - mark[0]}"
+            yield f"{mark.offset} {v[mark.offset]} {after.offset - mark.offset}"
+
+
+# ---- an independent writer
+
+TOO_LONG = b""  # stands for a block with a length that its field can't hold, of which there is no image
+
+
+def append(buf, mark, image):
+    """The refusal or 0, and the next bookmark: after a refusal, the same again. The image is written if nothing refuses it."""
+    if mark.offset < 80 or mark.due != (image[:1] == b"\x08"):
+        return 8, mark
+    if mark.number == TOP or image == TOO_LONG:
+        return 9, mark
+    # The reader judges the image by itself. A call has no cut block and no wrong checksum: where the reader finds one, a table
+    # has more or fewer bytes than its links.
+    fault, _, time = read_block(bytes(80) + image, 80, mark.due, mark.last)
+    if fault:
+        return 11 if fault in (2, 5) else fault, mark
+    end = mark.offset + len(image)
+    if end > LIMIT:
+        return 1, mark
+    if end > len(buf):
+        return 17, mark
+    buf[mark.offset:end] = image
+    return 0, next_mark(mark, end, time)
 
 
 # ---- an independent lookup, position by position
@@ -418,8 +461,17 @@ VOLUMES = dict(SAMPLES)
 
 
 LISTED = ["same_time", "lower_time"]
-# bookmarks that are made up: earlier_time.vol has a table at 80 and data at time 7 behind it
-READ_AT = [("earlier_time", (80, True, None)), ("earlier_time", (80, True, 7)), ("earlier_time", (80, True, 8))]
+# where readings begin: at a header's bookmark, and at some that are made up
+READ_FROM = [
+    ("all_kinds", [first_mark(EIGHT)]),
+    # a table at 80, which has no time, and data at time 7 behind it
+    ("earlier_time", [Mark(80, True, None, 0), Mark(80, True, 7, 0), Mark(80, True, 8, 0)]),
+    # data at time 7 alone, where the number of blocks is the last or the one before it
+    ("v", [Mark(80, False, None, TOP), Mark(104, False, 7, TOP), Mark(80, False, None, TOP - 1), Mark(80, False, 8, TOP),
+           Mark(80, True, None, TOP), Mark(79, False, None, TOP), Mark(105, False, None, TOP)]),
+    ("wrong_block_sum", [Mark(80, False, 8, TOP)]),
+]
+KINDS = {1: "inode", 2: "link", 3: "unlink", 4: "xattr", 5: "removed xattr", 6: "data", 7: "rename"}
 
 
 def volume_rows():
@@ -428,22 +480,22 @@ def volume_rows():
     for name in LISTED:
         yield f"{name}.vol, listed:"
         yield from listed(VOLUMES[name])
-    for name, mark in READ_AT:
-        yield from read_rows(VOLUMES[name], mark)
-
-
-def with_due(mark):
-    return with_last(mark) + (", table due" if mark[1] else ", no table due")
+    for name, marks in READ_FROM:
+        yield f"{name}.vol, read:"
+        for mark in marks:
+            yield from read_rows(VOLUMES[name], mark)
 
 
 def read_rows(v, first):
-    """Two readings in a row, of a table or of data."""
-    for mark, fault, after in itertools.islice(walk(v, first), 2):
+    for mark, fault, after in walk(v, first):
         if fault:
-            yield f"read at {with_due(mark)}: refused {fault}"
+            yield f"read at {mark}: refused {fault}"
+        elif after is None:
+            yield f"read at {mark}: end"
         else:
-            block = "table" if v[mark[0]] == 8 else f"data at time {after[2]}"
-            yield f"read at {with_due(mark)}: {block}, next {with_due(after)}"
+            kind = v[mark.offset]
+            block = "table" if kind == 8 else f"{KINDS[kind]} at time {after.last}"
+            yield f"read at {mark}: block {mark.number}, {block}, next {after}"
 
 
 # ---- the lookups that the program makes, in its order
@@ -474,49 +526,83 @@ def lookup_rows():
         yield f"fetch {n} at {offset} of volume {number}: {fetch(first, second, number, offset, n)}"
 
 
-# ---- the volumes that the program writes: each call with its image, which the reader judges, or with the number that refuses it
+# ---- the volumes that the program writes: each call with the image that it asks for, and its own bookmark where it has one
 
+LINKS = [(8, 1, b"gauge"), (9, 1, b"log")]
 EXTENTS = extent(0, 97, 3) + extent(0, 97, 3, 82, 3, 1, 1, 4)
-WRITTEN = [("header, ID of 15 bytes", 11), ("header, hash of 33 bytes", 11), ("header of volume 0 with a hash", 6), ("header in 79 bytes", 17),
-           ("header", header(1, bytes([9] * 32))),
-           ("data where a table is due", 8), ("table of 4,097 links", 9), ("table with one link more", 11), ("table with one link less", 11),
-           ("table, name not text", 10), ("table, link twice", 13), ("table", table([(8, 1, b"gauge"), (9, 1, b"log")])), ("second table", 8),
-           ("inode of 1,025 extents", 9), ("inode, 56 bytes", 11), ("inode, multiplicity 0", 11), ("inode, ranges overlap", 12),
+OVERLAPPING = extent(0, 97, 3) + extent(0, 97, 3, 82, 3, 1, 1, 2)
+# headers of which there is no image, or no room for it, with the number that refuses them
+NO_HEADERS = [("header, ID of 15 bytes", 11), ("header, hash of 33 bytes", 11), ("header of volume 0 with a hash", 6), ("header in 79 bytes", 17)]
+WRITTEN = [("data where a table is due", data(1, b"1,5")), ("table of 4,097 links", table(LINKS, 4097)),
+           ("table with one link more", table(LINKS, 1)), ("table with one link less", table(LINKS, 3)),
+           ("table, name not text", table([(8, 1, b"\xFF")])), ("table, link twice", table([(8, 1, b"a"), (9, 1, b"a")])),
+           ("table", table(LINKS)), ("second table", table(LINKS)),
+           ("inode of 1,025 extents", inode(1, REGULAR, bytes(57 * 1025), 14)), ("inode, 56 bytes", inode(1, REGULAR, bytes(56), 14)),
+           ("inode, multiplicity 0", inode(1, REGULAR, bytes(57), 14)), ("inode, ranges overlap", inode(1, REGULAR, OVERLAPPING, 14)),
            ("inode", inode(1, REGULAR, EXTENTS, 14)),
-           ("target not text", 10), ("target of another size", 11), ("symbolic link", inode(2, LINK, b"gauge", 75)),
-           ("folder with a byte", 11), ("folder at a lower time", inode(1, FOLDER)), ("folder", inode(3, FOLDER)),
-           ("link, name of 65,536 bytes", 9), ("link", link(4, b"gauge")), ("unlink, name not text", 10), ("unlink", link(5, b"log", 3)),
-           ("xattr, name of 256 bytes", 9), ("xattr", xattr(6, b"unit", b"m\xFF")), ("removed xattr", removed(7, b"unit")),
-           ("data", data(8, b"1,5")), ("rename, new path not text", 10), ("rename", rename(9, b"gauge", b"p\xC3\xA9gel")),
-           ("data without room", 17), ("data at 79", 8), ("table where none is due", 8),
-           ("data over the limit at a lower time", 14), ("data over the limit at the same time", 1), ("data past the limit", 1)]
+           ("target not text", inode(2, LINK, b"\x80", 71)), ("target of another size", inode(2, LINK, b"gauge", 76)),
+           ("symbolic link", inode(2, LINK, b"gauge", 75)),
+           ("folder with a byte", inode(3, FOLDER, b"x")), ("folder at a lower time", inode(1, FOLDER)), ("folder", inode(3, FOLDER)),
+           ("link, name of 65,536 bytes", TOO_LONG), ("link", link(4, b"gauge")),
+           ("unlink, name not text", link(5, b"\xC3", 3)), ("unlink", link(5, b"log", 3)),
+           ("xattr, name of 256 bytes", TOO_LONG), ("xattr", xattr(6, b"unit", b"m\xFF")), ("removed xattr", removed(7, b"unit")),
+           ("data", data(8, b"1,5")), ("rename, new path not text", rename(9, b"gauge", b"p\xE9gel")),
+           ("rename", rename(9, b"gauge", b"p\xC3\xA9gel")), ("data without room", data(10, b"")),
+           ("data", data(1, b"1,5"), Mark(79, False, None, 0)), ("table", table([]), Mark(LIMIT - 20, False, None, 0)),
+           ("data over the limit at a lower time", data(TOP - 1, b"1,5"), Mark(LIMIT - 20, False, TOP, 0)),
+           ("data over the limit at the same time", data(TOP, b"1,5"), Mark(LIMIT - 20, False, TOP, 0)),
+           ("data past the limit", data(1, b"1,5"), Mark(TOP, False, None, 0))]
 
-# the last of these is made at the bookmark of the one before it, so its image would make lower_time.vol
-TWICE = [("header", header()), ("data", data(7, b"1,5")), ("data at the same time", data(7, b"1,5")),
-         ("data in its place at a lower time", read_block(VOLUMES["lower_time"], 104, False, 7)[0])]
+# the last of these would make lower_time.vol
+TWICE = [("data", data(7, b"1,5")), ("data at the same time", data(7, b"1,5")),
+         ("data at a lower time", data(6, b"1,5"), Mark(104, False, 7, 1))]
+
+# behind V: the last block that can be counted, one more, and calls in the place of the one that was written
+LAST = Mark(104, False, 7, TOP - 1)
+FULL = next_mark(LAST, 128, 7)
+COUNTED = [("data", data(7, b"1,5"), LAST), ("data without room", data(7, b""), FULL)]
+UNCOUNTED = [("data", data(7, b"2,5"), Mark(104, False, 7, TOP)), ("data", data(7, b"2,5"), Mark(104, True, 7, TOP)),
+             ("data at a lower time", data(6, b"2,5"), Mark(104, False, 7, TOP)),
+             ("link, name not text", link(7, b"\xFF"), Mark(104, False, 7, TOP)),
+             ("table with one link more", table([(8, 1, b"a")], 0), Mark(104, True, 7, TOP))]
 
 
-def judged(volume, mark, outcome):
-    """The refusal or 0, and the next bookmark; an image is judged by the reader, behind what is written so far."""
-    if isinstance(outcome, int):
-        return outcome, mark
-    if not volume:
-        return header_fault(outcome), first_mark(outcome)
-    _, fault, after = next(walk(volume + outcome, mark))
-    return fault, after
+def call_rows(buf, mark, calls):
+    """Calls in a row, each at the bookmark that the one before it gave, or at one of its own, which is shown."""
+    for call, image, *own in calls:
+        fault, after = append(buf, own[0] if own else mark, image)
+        at = f"at {own[0]}: " if own else ""
+        yield f"{at}write {call}: " + (f"refused {fault}" if fault else f"next {after}")
+        mark = mark if own else after
 
 
-def written_rows(calls, name):
-    volume, mark = b"", None
-    for call, outcome in calls:
-        fault, after = judged(volume, mark, outcome)
-        if fault:
-            yield f"write {call}: refused {fault}"
-        else:
-            volume, mark = volume + outcome, after
-            yield f"write {call}: next {with_last(mark)}"
-    assert volume == VOLUMES[name]
+def volume_of(buf, head, calls):
+    buf[:80] = head
+    yield f"write header: next {first_mark(head)}"
+    yield from call_rows(buf, first_mark(head), calls)
+
+
+def same_as(buf, name):
+    assert buf == VOLUMES[name]
     yield f"written: the bytes of {name}.vol"
+
+
+def written_rows():
+    buf = bytearray(len(EIGHT))
+    for call, fault in NO_HEADERS:
+        yield f"write {call}: refused {fault}"
+    yield from volume_of(buf, header(1, bytes([9] * 32)), WRITTEN)
+    yield from same_as(buf, "all_kinds")
+    yield from listed(EIGHT)
+    buf = bytearray(128)
+    yield from volume_of(buf, header(), TWICE)
+    yield from same_as(buf, "same_time")
+    buf = bytearray(V + bytes(24))
+    yield "v.vol, appended to:"
+    yield from call_rows(buf, None, COUNTED)
+    yield from read_rows(buf, FULL)
+    yield from call_rows(buf, None, UNCOUNTED)
+    yield from same_as(buf, "same_time")
 
 
 CRATES = pathlib.Path("crates")
@@ -540,8 +626,7 @@ def main():
     keep("samples", VOLUMES, [*lines[:first], *volume_rows()])
     (CRATES / "samples/args").write_text("".join(f"{name}.vol\n" for name in VOLUMES))
     keep("lookup_samples", ["gauge", "later", "v", "wrong_magic"], lookup_rows())
-    keep("writing_samples", ["all_kinds", "same_time"],
-         [*written_rows(WRITTEN, "all_kinds"), *listed(EIGHT), *written_rows(TWICE, "same_time")])
+    keep("writing_samples", ["all_kinds", "same_time", "v"], written_rows())
 
 
 if __name__ == "__main__":

@@ -1,5 +1,5 @@
 // Volumes from the folder data, one for each argument: what the check of the whole volume answers.
-use crate::bookmarks::print_place;
+use printing::bookmarks::print_mark;
 use printing::load;
 use printing::print_pair;
 use printing::print_word;
@@ -9,9 +9,8 @@ use volume::Verdict;
 
 fn print_accepted(v: Accepted) {
     print_pair(b": accepted, volume ", v.sequence);
-    print_pair(b", ", v.blocks);
-    print_word(b" blocks, end");
-    print_place(v.end);
+    print_word(b", end");
+    print_mark(v.end);
     print_word(b"\n");
 }
 

@@ -1,9 +1,12 @@
 // A volume with a block of every kind, written afresh into a buffer that it fills, with refused calls among the accepted
 // ones. The bytes are then compared with those of all_kinds.vol, which was made from the layouts by other means, and listed.
-// A second volume has two blocks at one time.
+// A second volume has two blocks at one time, and a third one more than can be counted.
 use libc::STDOUT_FILENO;
+use printing::bookmarks::MOST_BLOCKS;
+use printing::bookmarks::print_mark;
+use printing::bookmarks::print_readings;
+use printing::bookmarks::print_refused;
 use printing::load;
-use printing::print_pair;
 use printing::print_word;
 use volume::Bookmark;
 use volume::LastTime;
@@ -15,31 +18,30 @@ const SYMBOLIC_LINK: u16 = 41471;
 
 const FOLDER: u16 = 16877;
 
-fn print_last(last: LastTime) {
-    match last {
-        LastTime::Never => print_word(b", no last time"),
-        LastTime::At(time) => print_pair(b", last time ", time),
-    }
-}
-
 // Prints the answer of a call, and gives the bookmark for the next one: after a refusal, the same again.
 fn onward(call: &[u8], mark: Bookmark, answer: WriteAnswer) -> Bookmark {
     print_word(b"write ");
     print_word(call);
     match answer {
         WriteAnswer::Next(next) => {
-            print_pair(b": next ", next.offset as u64);
-            let last = next.last;
-            print_last(last);
+            print_word(b": next");
+            print_mark(next);
             print_word(b"\n");
             next
         }
         WriteAnswer::Refused(refusal) => {
-            print_pair(b": refused ", refusal.number);
-            print_word(b"\n");
+            print_refused(refusal);
             mark
         }
     }
+}
+
+// The same, with the bookmark of the call printed first.
+fn at(call: &[u8], mark: Bookmark, answer: WriteAnswer) -> Bookmark {
+    print_word(b"at");
+    print_mark(mark);
+    print_word(b": ");
+    onward(call, mark, answer)
 }
 
 // A bookmark for calls that need none.
@@ -48,6 +50,7 @@ fn nowhere() -> Bookmark {
         offset: 0,
         due: false,
         last: LastTime::Never,
+        number: 0,
     }
 }
 
@@ -251,8 +254,9 @@ fn made_up(buf: &mut [u8; 659], offset: usize, last: LastTime, call: &[u8], time
         offset,
         due: false,
         last,
+        number: 0,
     };
-    onward(call, mark, mark.append_data(buf, time, b"1,5"));
+    at(call, mark, mark.append_data(buf, time, b"1,5"));
 }
 
 fn table_not_due(buf: &mut [u8; 659]) {
@@ -260,18 +264,15 @@ fn table_not_due(buf: &mut [u8; 659]) {
         offset: 16777196,
         due: false,
         last: LastTime::Never,
+        number: 0,
     };
-    onward(
-        b"table where none is due",
-        mark,
-        mark.append_table(buf, 0, b""),
-    );
+    at(b"table", mark, mark.append_table(buf, 0, b""));
 }
 
 // The time comes before the limit: a lower one is refused for itself, and at the same one the limit decides.
 fn bookmarks(buf: &mut [u8; 659]) {
     let latest = 18446744073709551615;
-    made_up(buf, 79, LastTime::Never, b"data at 79", 1);
+    made_up(buf, 79, LastTime::Never, b"data", 1);
     table_not_due(buf);
     made_up(
         buf,
@@ -316,6 +317,10 @@ fn compare_and_list(written: &[u8; 659]) {
     io::write_all(STDOUT_FILENO, &text);
 }
 
+fn compare_two(written: &[u8; 128]) {
+    compare(written, b"same_time.vol");
+}
+
 // The refused call comes last, at the bookmark where the second block was written: had it changed the buffer, the comparison
 // would show it.
 fn two_at_one_time() {
@@ -327,12 +332,63 @@ fn two_at_one_time() {
         mark,
         mark.append_data(&mut buf, 7, b"1,5"),
     );
-    onward(
-        b"data in its place at a lower time",
+    at(
+        b"data at a lower time",
         mark,
         mark.append_data(&mut buf, 6, b"1,5"),
     );
-    compare(&buf, b"same_time.vol");
+    compare_two(&buf);
+}
+
+// The end bookmark of V, but for what is due there and the number of its blocks.
+fn after_v(due: bool, number: u64) -> Bookmark {
+    Bookmark {
+        offset: 104,
+        due,
+        last: LastTime::At(7),
+        number,
+    }
+}
+
+// Calls where no more blocks can be counted: only a wrong place comes before that.
+fn not_counted(buf: &mut [u8; 128]) {
+    let mark = after_v(false, MOST_BLOCKS);
+    let due = after_v(true, MOST_BLOCKS);
+    at(b"data", mark, mark.append_data(buf, 7, b"2,5"));
+    at(b"data", due, due.append_data(buf, 7, b"2,5"));
+    at(
+        b"data at a lower time",
+        mark,
+        mark.append_data(buf, 6, b"2,5"),
+    );
+    at(
+        b"link, name not text",
+        mark,
+        mark.append_link(buf, 7, 8, 1, b"\xFF"),
+    );
+    at(
+        b"table with one link more",
+        due,
+        due.append_table(buf, 0, b"\x08\0\0\0\0\0\0\0\x01\0\0\0\0\0\0\0\x01\0a"),
+    );
+}
+
+// The last block that can be counted, behind V, and more. The calls of `not_counted` are made where that block was written,
+// so that the comparison would show it if one had changed the buffer.
+fn last_number() {
+    let mut buf = [0u8; 128];
+    load(b"v.vol", &mut buf);
+    print_word(b"v.vol, appended to:\n");
+    let mark = after_v(false, MOST_BLOCKS - 1);
+    let full = at(b"data", mark, mark.append_data(&mut buf, 7, b"1,5"));
+    at(
+        b"data without room",
+        full,
+        full.append_data(&mut buf, 7, b""),
+    );
+    print_readings(&buf, full);
+    not_counted(&mut buf);
+    compare_two(&buf);
 }
 
 fn main() {
@@ -350,4 +406,5 @@ fn main() {
     bookmarks(&mut buf);
     compare_and_list(&buf);
     two_at_one_time();
+    last_number();
 }
