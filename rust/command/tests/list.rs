@@ -45,11 +45,6 @@ fn accepted_blocks_come_before_the_refusal() {
     let words = "v: refused 14 at 189 (block 2): time lower than the last one; \
                  2 blocks accepted before\n";
     folder.run("list v").is(1, lines, words);
-
-    let long = folder.run("list v --long");
-    let last = long.out.lines().last();
-    assert_eq!(last, Some("refused 14 at 189 (block 2)"));
-    assert_eq!((long.status, long.err.as_str()), (1, words));
 }
 
 #[test]
