@@ -94,7 +94,9 @@ fn the_long_form_ends_with_a_refusal() {
     let answer = folder.run("list v -l");
     assert_eq!(answer.status, 1);
     assert!(
-        answer.out.ends_with("  3 bytes\nrefused 7 at 104 (block 1)\n"),
+        answer
+            .out
+            .ends_with("  3 bytes\nrefused 7 at 104 (block 1)\n"),
         "{answer:?}"
     );
     folder.put("v", b"");
