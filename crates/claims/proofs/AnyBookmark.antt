@@ -28,10 +28,13 @@ use Rattle.claims.specs.AnyBookmark.{Stands, InARow, HandedClaim, AnyBoo
 pub due-table : (due : Bool) (block : Block) → due ≡ isTable block → (due ≡ true) ↔ IsTable block
 due-table due block e = (λ d. table-iff block .0 (sym e ∙ d), λ t. e ∙ table-iff block .1 t)
 
-pub table-due : (due table : Bool) → ((due ≡ true) → table ≡ true) → ((table ≡ true) → due ≡ true) → due ≡ table
-table-due true table f g = sym (f refl)
-table-due false true f g = g refl
-table-due false false f g = refl
+same-flag : (due table : Bool) → ((due ≡ true) → table ≡ true) → ((table ≡ true) → due ≡ true) → due ≡ table
+same-flag true table f g = sym (f refl)
+same-flag false true f g = g refl
+same-flag false false f g = refl
+
+pub table-due : (due : Bool) (block : Block) → ((due ≡ true) ↔ IsTable block) → due ≡ isTable block
+table-due due block i = same-flag due (isTable block) (λ d. table-iff block .1 (i .0 d)) (λ t. i .1 (table-iff block .0 t))
 
 -- the parts of each kind stand after its fixed fields, one after the other
 places : (kind : Kind) (volume : List ℕ) (offset : ℕ) → InARow (offset + fixedLength kind) (parts (blockOf kind volume offset))
@@ -69,9 +72,8 @@ module _ (volume : List ℕ) (mark : Bookmark) (b : Bytes volume) where
       record {
         stands = record {
           small = p .small;
-          after-the-header = p .base;
+          in-place = record { after-the-header = p .base; a-table-where-due = due-table (mark .due) block (p .allowed .place) };
           keeps = p .allowed .keeps;
-          a-table-where-due = due-table (mark .due) block (p .allowed .place);
           time = p .allowed .time;
           countable = p .allowed .counted;
           image-there =
@@ -89,7 +91,7 @@ module _ (volume : List ℕ) (mark : Bookmark) (b : Bytes volume) where
   stands-handed block s =
       let allowed : Allowed mark block
       = record {
-        place = table-due (mark .due) (isTable block) (λ d. table-iff block .1 (s .a-table-where-due .0 d)) (λ t. s .a-table-where-due .1 (table-iff block .0 t));
+        place = table-due (mark .due) block (s .in-place .a-table-where-due);
         keeps = s .keeps;
         time = s .time;
         counted = s .countable;
@@ -97,7 +99,7 @@ module _ (volume : List ℕ) (mark : Bookmark) (b : Bytes volume) where
       let rest : List ℕ = drop (mark .offset + length (image block)) volume in
       let there : drop (mark .offset) volume ≡ image block ++ rest
       = drop-part volume (mark .offset) (length (image block)) ∙ ap (λ bytes. bytes ++ rest) (s .image-there) in
-      let h : Hands volume mark block = read-complete volume mark block (s .small) (s .after-the-header) allowed rest there in
+      let h : Hands volume mark block = read-complete volume mark block (s .small) (s .in-place .after-the-header) allowed rest there in
       (foundAt volume mark, h .answer, h .same)
 
 pub read-at-any-bookmark : AnyBookmark ours

@@ -14,7 +14,7 @@ use Rattle.refusal.specs.Refusal.{refusalOf}
 use Rattle.format.specs.Blocks.{Block}
 use Rattle.block.specs.Order.{blockOrder}
 use Rattle.block.specs.inner.Decoded.{blockAt, timeOfBlock}
-use Rattle.block.proofs.Ids.{isTable, table-iff}
+use Rattle.block.proofs.Ids.{isTable}
 use Rattle.block.proofs.Passed.{block-numbered}
 use Rattle.volume.specs.Reading.{isEnd, mayFollow, countFull, readFault, readAnswer}
 use Rattle.volume.specs.Writing.{placeOrder, appendFault, appendAnswer, appendBuffer}
@@ -25,7 +25,8 @@ use Rattle.volume.specs.declared.WriteAnswer.the-variants as write
 use Rattle.volume.proofs.Steps.{foundAt}
 use Rattle.volume.proofs.OneCall.{after, right-place, place-right}
 use Rattle.claims.specs.Library.{ours}
-use Rattle.claims.specs.LastNumber.{numbered, lastNumber, uncounted, InPlace, LastNumber}
+use Rattle.claims.specs.AnyBookmark.{InPlace}
+use Rattle.claims.specs.LastNumber.{numbered, lastNumber, uncounted, LastNumber}
 use Rattle.claims.proofs.AnyBookmark.{due-table, table-due}
 
 -- Reading.
@@ -84,9 +85,8 @@ module _ (room : ℕ) (mark : Bookmark) (block : Block) where
 
   in-place : InPlace mark block → appendFault room (numbered lastNumber mark) block ≡ 9
   in-place p =
-      let due = p .a-table-where-due in
-      let table = table-due (mark .due) (isTable block) (λ d. table-iff block .1 (due .0 d)) (λ t. due .1 (table-iff block .0 t)) in
-      placed false false (le-ltb _ _ (p .after-the-header)) (place-right (mark .due) (isTable block) table)
+      placed false false (le-ltb _ _ (p .after-the-header))
+      (place-right (mark .due) (isTable block) (table-due (mark .due) block (p .a-table-where-due)))
 
   out-of-place : (InPlace mark block → ⊥) → appendFault room (numbered lastNumber mark) block ≡ 8
   out-of-place n = go (ltb (mark .offset) 80) refl (not (Bool·beq (mark .due) (isTable block))) refl

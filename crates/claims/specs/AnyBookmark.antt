@@ -20,12 +20,16 @@ use Rattle.volume.specs.declared.Found.{Found}
 use Rattle.volume.specs.declared.ReadAnswer.the-variants as ReadAnswer
 use Rattle.claims.specs.Library.{Library}
 
+-- The bookmark is a place for the block.
+pub record InPlace (mark : Bookmark) (block : Block) : Type 0 where
+  pub after-the-header : 80 ≤ mark .offset
+  pub a-table-where-due : (mark .due ≡ true) ↔ IsTable block
+
 -- The rules allow the block at the bookmark of the volume, and its image stands there.
 pub record Stands (volume : List ℕ) (mark : Bookmark) (block : Block) : Type 0 where
   pub small : length volume ≤ 16777216
-  pub after-the-header : 80 ≤ mark .offset
+  pub in-place : InPlace mark block
   pub keeps : BlockRules block
-  pub a-table-where-due : (mark .due ≡ true) ↔ IsTable block
   pub time : TimeFollows (asOption (mark .last)) (timeOf block)
   -- below 2^64−1, it can be counted
   pub countable : mark .number < 18446744073709551615

@@ -2,19 +2,17 @@
 -- caller's, for the blocks of a volume are never so many.
 --
 -- It is a claim about a library, by its calls. Proved of ours in proofs/LastNumber.antt.
-use Prim.Native.Nat.{ℕ, suc, _≤_, _<_}
+use Prim.Native.Nat.{ℕ, suc, _<_}
 use mathlib.Core.Path.{_≡_}
-use mathlib.Core.Bool.{true}
-use mathlib.Core.Logic.{_↔_}
 use mathlib.Core.List.{List}
 use Rattle.refusal.specs.Refusal.{refusalOf}
 use Rattle.format.specs.Blocks.{Block}
-use Rattle.format.specs.Readings.{IsTable}
 use Rattle.volume.specs.declared.Bookmark.{Bookmark}
 use Rattle.volume.specs.declared.ReadAnswer.{ReadAnswer}
 use Rattle.volume.specs.declared.ReadAnswer.the-variants as read
 use Rattle.volume.specs.declared.WriteAnswer.the-variants as write
 use Rattle.claims.specs.Library.{Library}
+use Rattle.claims.specs.AnyBookmark.{InPlace}
 
 -- a bookmark with another number
 abbrev pub numbered : (number : ℕ) → Bookmark → Bookmark
@@ -29,17 +27,12 @@ uncounted read.End = read.End
 uncounted (read.Refused refusal) = read.Refused refusal
 uncounted (read.Found found) = read.Refused (refusalOf 9)
 
--- a block may stand at the bookmark, as far as 8 is concerned
-pub record InPlace (mark : Bookmark) (block : Block) : Type 0 where
-  pub after-the-header : 80 ≤ mark .offset
-  pub a-table-where-due : (mark .due ≡ true) ↔ IsTable block
-
 module _ (library : Library) where
   pub record LastNumber : Type 0 where
     -- in reading 9 comes last: the answer is made from the one at any lower number
     pub read-last : (volume : List ℕ) (mark : Bookmark) (number : ℕ) → number < lastNumber
         → library .read volume (numbered lastNumber mark) ≡ uncounted (library .read volume (numbered number mark))
-    -- in writing it comes right after 8, whatever else is at fault, and the buffer stays
+    -- in writing it comes right after 8, the refusal of the place, whatever else is at fault, and the buffer stays
     pub out-of-place : (room : ℕ) (mark : Bookmark) (block : Block) → (InPlace mark block → ⊥)
         → library .append room (numbered lastNumber mark) block ≡ write.Refused (refusalOf 8)
     pub in-place : (room : ℕ) (mark : Bookmark) (block : Block) → InPlace mark block
