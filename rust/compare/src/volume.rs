@@ -36,14 +36,7 @@ type Told = (Verdict, Option<u64>);
 /// The check and the header by the calls that give Rust types.
 pub fn typed(volume: &[u8]) -> Result<(), Difference> {
     let checked = match Volume::check(volume) {
-        Ok(checked) => {
-            let verdict = Verdict::Accepted {
-                sequence: checked.sequence(),
-                blocks: checked.block_count(),
-                end: bookmark(checked.end()),
-            };
-            (verdict, None)
-        }
+        Ok(checked) => accepted(checked.sequence(), checked.block_count(), checked.end()),
         Err(rejected) => refused(rejected.refusal, rejected.blocks),
     };
     let expected = told(independent::check(volume));
@@ -65,6 +58,16 @@ fn told(verdict: Verdict) -> Told {
     (verdict, block)
 }
 
+/// An acceptance of a whole volume by the proved library.
+fn accepted(sequence: u64, blocks: u64, end: hdrfs::Bookmark) -> Told {
+    let verdict = Verdict::Accepted {
+        sequence,
+        blocks,
+        end: bookmark(end),
+    };
+    (verdict, None)
+}
+
 /// A refusal of a whole volume by the proved library.
 fn refused(refusal: Refusal, blocks: u64) -> Told {
     let verdict = Verdict::Refused {
@@ -84,14 +87,7 @@ pub(crate) fn block_at_fault(offset: u64, blocks: u64) -> Option<u64> {
 /// What the walk says that an archive makes over its volumes.
 fn walked(volume: &[u8]) -> Told {
     match Checker::new().bytes("", volume.to_vec()) {
-        Ok(member) => {
-            let verdict = Verdict::Accepted {
-                sequence: member.sequence(),
-                blocks: member.block_count(),
-                end: bookmark(member.end()),
-            };
-            (verdict, None)
-        }
+        Ok(member) => accepted(member.sequence(), member.block_count(), member.end()),
         Err(ArchiveError::Refused {
             refusal,
             blocks: Some(blocks),
