@@ -10,7 +10,7 @@ use Rattle.number.specs.Number.{Bytes}
 use Rattle.number.proofs.Parts.{drop-part}
 use Rattle.format.specs.Blocks.{Kind, inodeBlock, linkBlock, unlinkBlock, xattrBlock, removedXattrBlock, dataBlock, renameBlock, linkTable}
 use Rattle.format.specs.Blocks.{Block, kindOf, image}
-use Rattle.format.specs.Readings.{IsTable}
+use Rattle.format.specs.Readings.{IsTable, timeOf}
 use Rattle.block.specs.Fields.{kindAt, fixedLength}
 use Rattle.block.specs.Shown.{shown, parts}
 use Rattle.block.specs.inner.Decoded.{blockOf}
@@ -20,9 +20,10 @@ use Rattle.volume.specs.declared.Bookmark.{Bookmark}
 use Rattle.volume.specs.declared.Found.{Found}
 use Rattle.volume.specs.declared.ReadAnswer.the-variants as read
 use Rattle.volume.proofs.Steps.{foundAt, found-there}
-use Rattle.volume.proofs.OneCall.{Allowed, HandedOut, read-sound, Hands, read-complete, end-sound, end-complete}
+use Rattle.volume.proofs.OneCall.{Allowed, after, HandedOut, read-sound, Hands, read-complete, end-sound, end-complete}
 use Rattle.claims.specs.Library.{ours}
-use Rattle.claims.specs.AnyBookmark.{Stands, InARow, HandedClaim, AnyBookmark}
+use Rattle.claims.specs.AnyBookmark.{NextAfter, Stands, InARow, HandedClaim, AnyBookmark}
+use Rattle.claims.proofs.Walk.{last-after}
 
 -- a table where one is due, said by the bookmark's flag and by the kind
 pub due-table : (due : Bool) (block : Block) → due ≡ isTable block → (due ≡ true) ↔ IsTable block
@@ -35,6 +36,10 @@ same-flag false false f g = refl
 
 pub table-due : (due : Bool) (block : Block) → ((due ≡ true) ↔ IsTable block) → due ≡ isTable block
 table-due due block i = same-flag due (isTable block) (λ d. table-iff block .1 (i .0 d)) (λ t. i .1 (table-iff block .0 t))
+
+-- the bookmark after a block is what is claimed of it
+pub next-after : (mark : Bookmark) (block : Block) → NextAfter mark block (after mark block)
+next-after mark block = record { offset = refl; none-due = refl; last = last-after (mark .last) (timeOf block); number = refl }
 
 -- the parts of each kind stand after its fixed fields, one after the other
 places : (kind : Kind) (volume : List ℕ) (offset : ℕ) → InARow (offset + fixedLength kind) (parts (blockOf kind volume offset))
@@ -83,7 +88,7 @@ module _ (volume : List ℕ) (mark : Bookmark) (b : Bytes volume) where
             subst (λ (f : Found). InARow (mark .offset + fixedLength (kindOf (shown volume (f .block)))) (parts (f .block)))
             (found-there volume mark found e) places-here;
         number = p .number;
-        next = p .next;
+        next = rw (p .next) (next-after mark block);
       }
 
   stands-handed : (block : Block) → Stands volume mark block

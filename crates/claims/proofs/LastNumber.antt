@@ -1,6 +1,6 @@
 -- At the last number reading is refused after every other check, and an append right after 8. Assumes nothing.
 use Prim.Native.Nat.{ℕ, suc, _<_}
-use mathlib.Core.Path.{_≡_, refl, sym, ap, _∙_}
+use mathlib.Core.Path.{_≡_, refl, sym, ap, _∙_, subst}
 use mathlib.Core.Bool.{Bool, true, false, not, cond, Bool·beq}
 use mathlib.Core.List.{List}
 use native.Mathlib.Nat.{suc-ne-zero}
@@ -25,9 +25,9 @@ use Rattle.volume.specs.declared.WriteAnswer.the-variants as write
 use Rattle.volume.proofs.Steps.{foundAt}
 use Rattle.volume.proofs.OneCall.{after, right-place, place-right}
 use Rattle.claims.specs.Library.{ours}
-use Rattle.claims.specs.AnyBookmark.{InPlace}
+use Rattle.claims.specs.AnyBookmark.{InPlace, NextAfter}
 use Rattle.claims.specs.LastNumber.{numbered, lastNumber, uncounted, LastNumber}
-use Rattle.claims.proofs.AnyBookmark.{due-table, table-due}
+use Rattle.claims.proofs.AnyBookmark.{due-table, table-due, next-after}
 
 -- Reading.
 
@@ -107,13 +107,13 @@ module _ (room : ℕ) (mark : Bookmark) (block : Block) where
   unfolding appendAnswer
   refused {fault} e = rw (e, eqb·suc-zero fault)
 
-  counts-on : (next : Bookmark) → appendAnswer room mark block ≡ write.Next next → next .number ≡ suc (mark .number)
+  counts-on : (next : Bookmark) → appendAnswer room mark block ≡ write.Next next → NextAfter mark block next
   unfolding appendAnswer
   counts-on next = go (eqb (appendFault room mark block) 0)
     where
       go : (sound : Bool) → cond sound (write.Next (after mark block)) (write.Refused (refusalOf (appendFault room mark block))) ≡ write.Next next
-          → next .number ≡ suc (mark .number)
-      go true e = let same : after mark block ≡ next = cc in sym (ap (λ (m : Bookmark). m .number) same)
+          → NextAfter mark block next
+      go true e = let same : after mark block ≡ next = cc in subst (NextAfter mark block) same (next-after mark block)
       go false e = let z : _≡_ {A = ℕ} 0 1 = cc in absurd (omega arith)
 
 buffer-stays : (buffer : List ℕ) (mark : Bookmark) (block : Block) → appendBuffer buffer (numbered lastNumber mark) block ≡ buffer

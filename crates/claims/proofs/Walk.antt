@@ -51,7 +51,7 @@ not-table block e t = false≢true (sym e ∙ table-iff block .1 t)
 table-not : (block : Block) → (IsTable block → ⊥) → isTable block ≡ false
 table-not block n = eq-false-of-not-eq-true (λ e. n (table-iff block .0 e))
 
-last-after : (last : LastTime) (time : Option ℕ) → asOption (lastWith last time) ≡ format.lastAfter (asOption last) time
+pub last-after : (last : LastTime) (time : Option ℕ) → asOption (lastWith last time) ≡ format.lastAfter (asOption last) time
 last-after last none = refl
 last-after last (some time) = refl
 

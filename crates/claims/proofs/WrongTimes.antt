@@ -21,10 +21,10 @@ use Rattle.volume.specs.declared.Found.{Found}
 use Rattle.volume.specs.declared.ReadAnswer.{ReadAnswer}
 use Rattle.volume.specs.declared.ReadAnswer.the-variants as read
 use Rattle.volume.specs.declared.WriteAnswer.the-variants as write
+use Rattle.volume.proofs.OneCall.{read-sound}
 use Rattle.claims.specs.Demand3Reading.{Calls, ended, handed}
 use Rattle.claims.specs.Demand3.{Judged, none-left, accepted, appends, Demand3}
 use Rattle.claims.specs.Wrong.{isLast, greaterOnly, refusesSameTime, acceptsLowerTime}
-use Rattle.claims.proofs.AnyBookmark.{read-at-any-bookmark}
 use Rattle.claims.proofs.Tried.{bare, bareData, data-long, data-rules, data-appended, two-bytes, two-given, roomy, roomy-long, roomy-bytes, started}
 
 -- The reader.
@@ -53,7 +53,7 @@ other-times : {volume : List ℕ} {number : ℕ} {mark end : Bookmark} {blocks :
 other-times b (ended e) = tt
 other-times {volume} {mark = mark} b (handed {found = found} {blocks = blocks} e numbered calls) =
     let here = not-last volume mark found (readAnswer volume mark) e in
-    let next = read-at-any-bookmark volume mark b .handed-out found (here .0) .next in
+    let next = read-sound volume mark found b (here .0) .next in
     (here .1, subst (λ (m : Bookmark). OtherTimes (m .last) blocks) next (other-times b calls))
 
 pub refuses-same-time : Demand3 refusesSameTime → ⊥

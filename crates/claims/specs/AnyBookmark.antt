@@ -2,7 +2,7 @@
 -- out wherever the rules allow it there. Which of several faults is given otherwise, the order of checks says (`readOrder`).
 --
 -- It is a claim about a library, by its calls. Proved of ours in proofs/AnyBookmark.antt.
-use Prim.Native.Nat.{ℕ, _+_, _≤_, _<_}
+use Prim.Native.Nat.{ℕ, suc, _+_, _≤_, _<_}
 use mathlib.Core.Path.{_≡_}
 use mathlib.Core.Bool.{true, false}
 use mathlib.Core.Logic.{_↔_}
@@ -10,11 +10,11 @@ use mathlib.Core.List.{List, [], _∷_}
 use lib.ListN.{length}
 use Rattle.number.specs.Number.{Bytes, part}
 use Rattle.format.specs.Blocks.{Block, kindOf, image, BlockRules}
-use Rattle.format.specs.Readings.{IsTable, timeOf, TimeFollows}
+use Rattle.format.specs.Readings.{IsTable, timeOf, lastAfter, TimeFollows}
 use Rattle.block.specs.Fields.{fixedLength}
 use Rattle.block.specs.Shown.{shown, parts}
 use Rattle.block.specs.declared.Part.{Part}
-use Rattle.volume.specs.Reading.{asOption, markAfter}
+use Rattle.volume.specs.Reading.{asOption}
 use Rattle.volume.specs.declared.Bookmark.{Bookmark}
 use Rattle.volume.specs.declared.Found.{Found}
 use Rattle.volume.specs.declared.ReadAnswer.the-variants as ReadAnswer
@@ -24,6 +24,13 @@ use Rattle.claims.specs.Library.{Library}
 pub record InPlace (mark : Bookmark) (block : Block) : Type 0 where
   pub after-the-header : 80 ≤ mark .offset
   pub a-table-where-due : (mark .due ≡ true) ↔ IsTable block
+
+-- The bookmark after a block: behind its image, with no table due, with its time as the last one if it has one, and with one block more.
+pub record NextAfter (mark : Bookmark) (block : Block) (next : Bookmark) : Type 0 where
+  pub offset : next .offset ≡ mark .offset + length (image block)
+  pub none-due : next .due ≡ false
+  pub last : asOption (next .last) ≡ lastAfter (asOption (mark .last)) (timeOf block)
+  pub number : next .number ≡ suc (mark .number)
 
 -- The rules allow the block at the bookmark of the volume, and its image stands there.
 pub record Stands (volume : List ℕ) (mark : Bookmark) (block : Block) : Type 0 where
@@ -48,9 +55,7 @@ module _ (library : Library) where
     pub places : InARow (mark .offset + fixedLength (kindOf (shown volume (found .block)))) (parts (found .block))
     -- its number is the bookmark's
     pub number : found .number ≡ mark .number
-    -- the next bookmark is after its image
-    pub next : found .next
-        ≡ markAfter mark (mark .offset + length (image (shown volume (found .block)))) (timeOf (shown volume (found .block)))
+    pub next : NextAfter mark (shown volume (found .block)) (found .next)
 
   -- What is claimed of a reading at a bookmark.
   pub record ReadClaim (volume : List ℕ) (mark : Bookmark) : Type 0 where

@@ -2,7 +2,7 @@
 -- caller's, for the blocks of a volume are never so many.
 --
 -- It is a claim about a library, by its calls. Proved of ours in proofs/LastNumber.antt.
-use Prim.Native.Nat.{ℕ, suc, _<_}
+use Prim.Native.Nat.{ℕ, _<_}
 use mathlib.Core.Path.{_≡_}
 use mathlib.Core.List.{List}
 use Rattle.refusal.specs.Refusal.{refusalOf}
@@ -12,7 +12,7 @@ use Rattle.volume.specs.declared.ReadAnswer.{ReadAnswer}
 use Rattle.volume.specs.declared.ReadAnswer.the-variants as read
 use Rattle.volume.specs.declared.WriteAnswer.the-variants as write
 use Rattle.claims.specs.Library.{Library}
-use Rattle.claims.specs.AnyBookmark.{InPlace}
+use Rattle.claims.specs.AnyBookmark.{InPlace, NextAfter}
 
 -- a bookmark with another number
 abbrev pub numbered : (number : ℕ) → Bookmark → Bookmark
@@ -39,6 +39,6 @@ module _ (library : Library) where
         → library .append room (numbered lastNumber mark) block ≡ write.Refused (refusalOf 9)
     pub buffer-stays : (buffer : List ℕ) (mark : Bookmark) (block : Block)
         → library .appendBuffer buffer (numbered lastNumber mark) block ≡ buffer
-    -- at any other number an accepted append counts one more
+    -- at any other number an append that is accepted answers the bookmark after the block, which has been counted
     pub counts-on : (room : ℕ) (mark next : Bookmark) (block : Block) → library .append room mark block ≡ write.Next next
-        → next .number ≡ suc (mark .number)
+        → NextAfter mark block next
