@@ -20,7 +20,8 @@ pub const HASH_NOT_ZERO: u64 = 6;
 pub const ID_UNKNOWN: u64 = 7;
 // The offset lies in the header, or a table is missing where it is due, or stands where it is not.
 pub const OUT_OF_PLACE: u64 = 8;
-// More extents, links or volume lengths than are allowed; in writing, a name, value or path too long for its length field.
+// More extents, links or volume lengths than are allowed, or more blocks than a bookmark can count; in writing, a name, value
+// or path too long for its length field.
 pub const OVER_LIMIT: u64 = 9;
 // A name, a path or a link target is not UTF-8.
 pub const NOT_TEXT: u64 = 10;
