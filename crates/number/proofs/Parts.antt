@@ -82,6 +82,14 @@ drop-min bytes at =
     (λ e. rw (min-eq-left {n = at} {m = length bytes} (omega (arith, ltb-true at (length bytes) e))))
     (dichotomy (ltb at (length bytes)))
 
+-- the part that is all that is left, counted from the end of the bytes
+pub part-left : (bytes : List ℕ) (from len rest start : ℕ) → rest ≡ length bytes - from → rest ≤ len → start ≡ length bytes - rest
+    → part bytes start (length bytes - start) ≡ part bytes from len
+part-left bytes from len rest start r h s =
+    let m : start ≡ min from (length bytes) = omega arith in
+    part-onward bytes start ∙ ap (λ (n : ℕ). drop n bytes) m ∙ drop-min bytes from
+    ∙ sym (take-all len (drop from bytes) (omega (arith, length-drop from bytes)))
+
 -- a number read from the part that begins at an offset, or at the end of the bytes where that comes first, is read in the whole
 pub number-from : (bytes : List ℕ) (at from offset width : ℕ) → from ≡ min at (length bytes)
     → numberAt (take (length bytes - from) (drop from bytes)) offset width ≡ numberAt bytes (at + offset) width

@@ -1,12 +1,12 @@
 // Little-endian numbers in byte slices, and bytes copied into a lent buffer.
 //
 // Public calls: read_u8 to read_u64, write_u8 to write_u64, write_bytes, same_bytes. All are total: a read past the end
-// takes missing bytes as 0, and a write that would run past the end changes nothing.
+// takes missing bytes as 0, and a write that would run past the end changes nothing. `part_of` is total too, and internal.
 // Every crate that reads or writes a field of a volume calls them.
 ghost use mathlib.Core.Path.{_≡_};
 ghost use Prim.Native.Nat.{_+_, _-_, _^_, _≤_, _<_};
 ghost use lib.ListN.{length, drop};
-ghost use Rattle.number.specs.Number.{le, leBytes, numberAt, put};
+ghost use Rattle.number.specs.Number.{le, leBytes, part, numberAt, put};
 ghost use Rattle.number.specs.inner.Same.{sameBytes};
 
 // The number of one byte at `at`.
@@ -109,6 +109,17 @@ pub fn same_bytes(a: &[u8], b: &[u8]) -> bool
         i += 1;
     }
     true
+}
+
+// Internal: the part of `len` bytes from `from` on, or what there is of it where the bytes end before it does.
+pub fn part_of(bytes: &[u8], from: usize, len: usize) -> &[u8]
+    ensures { λ r. ⌜ now r ≡ part (now (bytes .entry)) from len ⌝ }
+{
+    let rest = left(bytes.len(), from);
+    if rest <= len {
+        return &bytes[bytes.len() - rest..];
+    }
+    &bytes[from..from + len]
 }
 
 // How many of `len` bytes stand at `at` or after it.
