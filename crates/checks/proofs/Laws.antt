@@ -1,7 +1,7 @@
 -- `firstFault` computes what `Decides` says; a table that finds no fault clears each of its checks; two tables in a row; the checks
 -- that a number can come from. Assumes nothing.
 use mathlib.Core.Path.{_≡_, refl, sym, _∙_}
-use mathlib.Core.Bool.{Bool, true, false, cond, _||_}
+use mathlib.Core.Bool.{Bool, true, false, false≢true, cond, _||_}
 use mathlib.Core.List.{List, [], _∷_, _++_}
 use Prim.Native.Nat.{ℕ, zero, suc}
 use native.Mathlib.Nat.{suc-ne-zero}
@@ -112,3 +112,8 @@ given number (check false other ∷ checks) n e = go (eqb other number) (given n
     go : (t : Bool) → gives number checks ≡ true → cond t (gives number checks) (gives number checks) ≡ true
     go true h = h
     go false h = h
+
+-- so a table with no such check does not give it
+pub not-given : (number : ℕ) (checks : List Check) {m : ℕ} → (number ≡ 0 → ⊥) → gives number checks ≡ false → m ≡ firstFault checks
+    → m ≡ number → ⊥
+not-given number checks n e f h = false≢true (sym e ∙ given number checks n (sym f ∙ h))
