@@ -9,7 +9,7 @@ use lib.ListN.{length, take}
 use lib.Seq.{take-all}
 use Rattle.number.specs.Number.{Bytes}
 use Rattle.format.specs.Layout.{All}
-use Rattle.format.specs.Blocks.{TableLink, LinksOf}
+use Rattle.format.specs.Blocks.{TableLink, linkList, LinksOf}
 use Rattle.links.specs.Links.{linkStart, linksFrom}
 use Rattle.links.specs.inner.Tests.{someNameNotText, someLinkTwice}
 use Rattle.links.proofs.Lists.{Fitting, length-links, list-of-links, links-fitting, links-of-list, start-of-list}
@@ -42,6 +42,15 @@ pub filled-sound : (bytes : List ℕ) → Bytes bytes → (count : ℕ) → link
     → LinksOf count bytes
 filled-sound bytes b count end pass =
     subst (LinksOf count) (take-all (linkStart bytes count) bytes (omega arith)) (links-sound bytes b count (omega arith) pass)
+
+-- and end with them, whatever stands after them
+pub filled-end : (bytes : List ℕ) → Bytes bytes → (count : ℕ) → linkStart bytes count ≡ length bytes → (rest : List ℕ)
+    → linkStart (bytes ++ rest) count ≡ length bytes
+filled-end bytes b count end rest =
+    let list : List TableLink = linksFrom bytes 0 count in
+    let same : linkList list ≡ bytes
+    = list-of-links bytes b count (omega arith) ∙ take-all (linkStart bytes count) bytes (omega arith) in
+    rw (same, length-links bytes count) at (start-of-list list rest (links-fitting bytes b count (omega arith)))
 
 -- From the rule to the tests, whatever stands after the links.
 module _ {count : ℕ} {bytes : List ℕ} (rule : LinksOf count bytes) where
