@@ -12,7 +12,8 @@ use Rattle.number.specs.Number.{put}
 use Rattle.checks.specs.Checks.{clear, miss}
 use Rattle.checks.proofs.Laws.{decided, none-append}
 use Rattle.checks.proofs.Tests.{eq-neb}
-use Rattle.refusal.specs.Refusal.{refusalOf}
+use Rattle.refusal.specs.Refusal.{refusalOf, refusalWith}
+use Rattle.texts.specs.Texts.{texts}
 use Rattle.refusal.specs.declared.Refusal.{Refusal}
 use Rattle.format.specs.Blocks.{Block, image}
 use Rattle.format.specs.Headers.{Header, headerImage, HeaderRules}
@@ -83,7 +84,7 @@ appended buffer mark block s = go (eqb (appendFault (length buffer) mark block) 
   where
     go : (sound : Bool) → eqb (appendFault (length buffer) mark block) 0 ≡ sound
         → Appended buffer mark block
-        (cond sound (Next (after mark block)) (Refused (refusalOf (appendFault (length buffer) mark block))))
+        (cond sound (Next (after mark block)) (Refused (refusalWith (appendFault (length buffer) mark block) (texts block))))
         (cond sound (put buffer (mark .offset) (image block)) buffer)
     go true e = accepted (append-sound (length buffer) mark block s (eqb-true _ _ e))
     go false e = refused _ (λ a. eqb-false _ _ e (append-complete (length buffer) mark block a))

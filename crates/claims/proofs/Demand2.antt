@@ -26,6 +26,9 @@ use Rattle.lookup.specs.inner.Answers.{placeFor, positionAnswer}
 use Rattle.lookup.specs.Lookup.{lookupFault}
 use Rattle.lookup.specs.declared.PositionAnswer.the-variants.{PastEnd}
 use Rattle.lookup.proofs.Clear.{RegularFile, Clear, a-lookup-without-a-fault-is-clear}
+use Rattle.refusal.specs.Refusal.{refusalWith}
+use Rattle.refusal.proofs.Laws.{with-number}
+use Rattle.texts.specs.Texts.{textsAt}
 use Rattle.lookup.proofs.Answers.{position-refused, runs-refused, room-kept}
 use lib.ListN.{length}
 use Rattle.claims.specs.Library.{ours}
@@ -118,10 +121,12 @@ demand-2-holds volume offset lengths b =
           λ lacking.
           let fault : lookupFault volume offset lengths ≡ 0 → ⊥ = λ clear. lacking (clear-iff-there .0 clear) in
           record {
-            positions = λ position. sym (position-refused volume offset lengths refl fault position);
+            refusal = refusalWith (lookupFault volume offset lengths) (textsAt volume offset);
+            with-the-number = with-number (lookupFault volume offset lengths) (textsAt volume offset);
+            positions = λ position. sym (position-refused volume offset lengths refl fault refl position);
             ranges =
                 λ from to out. (
-                  sym (runs-refused volume offset lengths refl fault from to (length out)),
+                  sym (runs-refused volume offset lengths refl fault refl from to (length out)),
                   sym (room-kept volume offset lengths refl fault from to out),
                 );
           };

@@ -1,22 +1,24 @@
 -- At the last number reading is refused after every other check, and an append right after 8. Assumes nothing.
-use Prim.Native.Nat.{ℕ, suc, _<_}
+use Prim.Native.Nat.{ℕ, _<_}
 use mathlib.Core.Path.{_≡_, refl, sym, ap, _∙_, subst}
 use mathlib.Core.Bool.{Bool, true, false, not, cond, Bool·beq}
 use mathlib.Core.List.{List}
 use native.Mathlib.Nat.{suc-ne-zero}
 use native.Mathlib.Omega.{arith}
-use lib.Dec.{ltb, eqb, eqb·suc-zero}
+use lib.Dec.{ltb, eqb}
 use lib.ListN.{length}
-use borrow.Author.Tests.{le-leb, lt-leb, le-ltb, ltb-false}
+use borrow.Author.Tests.{le-leb, lt-leb, le-ltb, ltb-false, ne-eqb}
 use Rattle.checks.specs.Checks.{firstFault, hit, miss}
 use Rattle.checks.proofs.Laws.{firstFault-append, decided, stopped}
-use Rattle.refusal.specs.Refusal.{refusalOf}
+use Rattle.refusal.specs.Refusal.{refusalOf, refusalWith}
+use Rattle.refusal.proofs.Laws.{with-other}
 use Rattle.format.specs.Blocks.{Block}
 use Rattle.block.specs.Order.{blockOrder}
 use Rattle.block.specs.inner.Decoded.{blockAt, timeOfBlock}
 use Rattle.block.proofs.Ids.{isTable}
 use Rattle.block.proofs.Passed.{block-numbered}
 use Rattle.volume.specs.Reading.{isEnd, mayFollow, countFull, readFault, readAnswer}
+use Rattle.texts.specs.Texts.{texts, textsAt}
 use Rattle.volume.specs.Writing.{placeOrder, appendFault, appendAnswer, appendBuffer}
 use Rattle.volume.specs.declared.Bookmark.{Bookmark}
 use Rattle.volume.specs.declared.Found.{Found}
@@ -49,14 +51,16 @@ module _ (volume : List ℕ) (mark : Bookmark) where
       ∙ ap (λ (f : Bool). faultBy own late f) e
 
 -- the answer at the last number is made from that at another
-from-other : (end : Bool) (fault : ℕ) (zero : Bool) → eqb fault 0 ≡ zero → (untimely : Bool) (one other : Found)
-    → cond end read.End (cond (eqb (faultBy fault untimely true) 0) (read.Found one) (read.Refused (refusalOf (faultBy fault untimely true))))
+from-other : (end : Bool) (fault : ℕ) (zero : Bool) → eqb fault 0 ≡ zero → (untimely : Bool) (one other : Found) (texts : List (List ℕ))
+    → cond end read.End
+    (cond (eqb (faultBy fault untimely true) 0) (read.Found one) (read.Refused (refusalWith (faultBy fault untimely true) texts)))
     ≡ uncounted (cond end read.End
-    (cond (eqb (faultBy fault untimely false) 0) (read.Found other) (read.Refused (refusalOf (faultBy fault untimely false)))))
-from-other true fault zero e untimely one other = refl
-from-other false fault true e true one other = rw e refl
-from-other false fault true e false one other = rw e refl
-from-other false fault false e untimely one other = rw (e, e) refl
+    (cond (eqb (faultBy fault untimely false) 0) (read.Found other) (read.Refused (refusalWith (faultBy fault untimely false) texts))))
+unfolding refusalWith
+from-other true fault zero e untimely one other texts = refl
+from-other false fault true e true one other texts = rw e refl
+from-other false fault true e false one other texts = rw e refl
+from-other false fault false e untimely one other texts = rw (e, e) refl
 
 read-last : (volume : List ℕ) (mark : Bookmark) (number : ℕ) → number < lastNumber
     → readAnswer volume (numbered lastNumber mark) ≡ uncounted (readAnswer volume (numbered number mark))
@@ -67,7 +71,7 @@ read-last volume mark number h =
       fault-by volume mark number false (lt-leb lastNumber number h),
     )
     (from-other (isEnd volume mark) (own volume mark) _ refl (late volume mark) (foundAt volume (numbered lastNumber mark))
-    (foundAt volume (numbered number mark)))
+    (foundAt volume (numbered number mark)) (textsAt volume (mark .offset)))
 
 -- Appending.
 
@@ -102,16 +106,16 @@ module _ (room : ℕ) (mark : Bookmark) (block : Block) where
             a-table-where-due = due-table (mark .due) block (right-place (mark .due) (isTable block) f);
           }))
 
-  refused : {fault : ℕ} → appendFault room (numbered lastNumber mark) block ≡ suc fault
-      → appendAnswer room (numbered lastNumber mark) block ≡ write.Refused (refusalOf (suc fault))
+  refused : {fault : ℕ} → appendFault room (numbered lastNumber mark) block ≡ fault → (fault ≡ 0 → ⊥) → (fault ≡ 10 → ⊥)
+      → appendAnswer room (numbered lastNumber mark) block ≡ write.Refused (refusalOf fault)
   unfolding appendAnswer
-  refused {fault} e = rw (e, eqb·suc-zero fault)
+  refused {fault} e n t = rw (e, ne-eqb fault 0 n) (ap write.Refused (sym (with-other fault (texts block) t)))
 
   counts-on : (next : Bookmark) → appendAnswer room mark block ≡ write.Next next → NextAfter mark block next
   unfolding appendAnswer
   counts-on next = go (eqb (appendFault room mark block) 0)
     where
-      go : (sound : Bool) → cond sound (write.Next (after mark block)) (write.Refused (refusalOf (appendFault room mark block))) ≡ write.Next next
+      go : (sound : Bool) → cond sound (write.Next (after mark block)) (write.Refused (refusalWith (appendFault room mark block) (texts block))) ≡ write.Next next
           → NextAfter mark block next
       go true e = let same : after mark block ≡ next = cc in subst (NextAfter mark block) same (next-after mark block)
       go false e = let z : _≡_ {A = ℕ} 0 1 = cc in absurd (omega arith)
@@ -130,8 +134,8 @@ pub last-number-holds : LastNumber ours
 last-number-holds =
     record {
       read-last = read-last;
-      out-of-place = λ room mark block n. refused room mark block (out-of-place room mark block n);
-      in-place = λ room mark block p. refused room mark block (in-place room mark block p);
+      out-of-place = λ room mark block n. refused room mark block (out-of-place room mark block n) (omega arith) (omega arith);
+      in-place = λ room mark block p. refused room mark block (in-place room mark block p) (omega arith) (omega arith);
       buffer-stays = buffer-stays;
       counts-on = λ room mark next block. counts-on room mark block next;
     }

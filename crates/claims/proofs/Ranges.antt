@@ -14,7 +14,7 @@ use Rattle.number.proofs.Put.{put-fits}
 use Rattle.checks.specs.Checks.{check, firstFault}
 use Rattle.checks.proofs.Laws.{firstFault-append}
 use Rattle.checks.proofs.First.{option-cases}
-use Rattle.refusal.specs.Refusal.{refusalOf}
+use Rattle.refusal.specs.Refusal.{refusalOf, refusalWith}
 use Rattle.block.specs.Fields.{sizeAt, restAt}
 use Rattle.runs.specs.Positions.{keeper}
 use Rattle.runs.specs.inner.Computed.{runLengths, runNumbers, runCount, rangeNumbers}
@@ -121,7 +121,7 @@ module _ (volume : List ℕ) (offset : ℕ) (lengths : List ℕ) (clear : lookup
     pub room-too-small : (out : List ℕ) → length out < 5 * length lens
         → (runsAnswer volume offset lengths from to (length out) ≡ Refused (refusalOf 17))
         × (runsRoom volume offset lengths from to out ≡ out)
-    unfolding runsAnswer runsRoom
+    unfolding runsAnswer runsRoom refusalWith
     room-too-small out h =
         let f : runsFault volume offset lengths from to (length out) ≡ 17
         = fault-is (length out) ∙ rw (lt-ltb (length out) (5 * length lens) h) in

@@ -14,6 +14,7 @@ use Rattle.checks.specs.Scan.{anyBelow, firstBelow}
 use Rattle.checks.proofs.Laws.{decided, faultAt}
 use Rattle.checks.proofs.Tests.{eq-neb}
 use Rattle.refusal.specs.Refusal.{refusalOf}
+use Rattle.refusal.proofs.Laws.{with-other}
 use Rattle.format.specs.Layout.{laid, sealed}
 use Rattle.format.specs.Extents.{extentList}
 use Rattle.format.specs.Blocks.{inodeBlock, widths, fields, image}
@@ -93,8 +94,10 @@ module _ (file : File) where
     unfolding readFault
     fault-is = without 8 (readOrder volume afterV) (same ∙ sum-right file)
 
-    read-refuses : (number : ℕ) → readOthers ≡ suc number → Holds (readRefuses file (suc number))
-    read-refuses number e = sym (refusal-read volume afterV (suc number) more (fault-is ∙ e) (λ z. omega arith))
+    -- with a number that is above 10, so that it says nothing of a text
+    read-refuses : (number : ℕ) → readOthers ≡ 11 + number → Holds (readRefuses file (11 + number))
+    read-refuses number e =
+        sym (refusal-read volume afterV (11 + number) more (fault-is ∙ e) (λ z. omega arith) (with-other (11 + number) _ (λ z. omega arith)))
 
     read-gives : readOthers ≡ 0 → readAnswer volume afterV ≡ Found (foundAt volume afterV)
     read-gives e = sym (found-read volume afterV more (fault-is ∙ e))
@@ -148,14 +151,14 @@ every-row-holds =
     (row refl
     (row (runs-are fileB refl refl 0 14 _ refl)
     (row (runs-refuse fileB refl refl 0 14 24 (omega arith))
-    (row (read-refuses (large 67) refl refl 10 refl)
-    (row (read-refuses (large 82) refl refl 10 refl)
+    (row (read-refuses (large 67) refl refl 0 refl)
+    (row (read-refuses (large 82) refl refl 0 refl)
     (row refl
     (row (refl, read-gives (empty 67) refl refl refl)
     (row refl
     (row (refl, read-gives (empty 82) refl refl refl)
     (row (refl, read-gives touching refl refl refl)
-    (row (read-refuses overlapping refl refl 11 refl)
+    (row (read-refuses overlapping refl refl 1 refl)
     tt)))))))))))))))))
 
 -- File A keeps position 0, and file B does not keep it; no lookup in either is refused.

@@ -11,6 +11,7 @@ use mathlib.Core.List.{List, [], _∷_, _++_}
 use lib.ListN.{length, drop}
 use Rattle.number.specs.Number.{Bytes, part}
 use Rattle.refusal.specs.Refusal.{refusalOf}
+use Rattle.refusal.specs.declared.Refusal.{Refusal}
 use Rattle.format.specs.declared.Extent.{Extent}
 use Rattle.format.specs.Layout.{laid}
 use Rattle.format.specs.Extents.{extentWidths, extentFields, keptLength, footprint, ExtentRules, KeepsPosition}
@@ -146,12 +147,14 @@ module _ (library : Library) where
         → library .position volume offset lengths position ≡ PositionAnswer.PastEnd
     pub ranges : (from to : ℕ) → RangeClaim volume offset lengths from to
 
-  -- What is claimed of a lookup that is refused: every position and every range gets the number, no position a place and no range a
-  -- number of runs, and the lent list stays as it was.
+  -- What is claimed of a lookup that is refused: every position and every range gets one refusal, with the number, no position a place
+  -- and no range a number of runs, and the lent list stays as it was.
   pub record RefusedClaim (volume : List ℕ) (offset : ℕ) (lengths : List ℕ) (number : ℕ) : Type 0 where
-    pub positions : (position : ℕ) → library .position volume offset lengths position ≡ PositionAnswer.Refused (refusalOf number)
+    pub refusal : Refusal
+    pub with-the-number : refusal .number ≡ number
+    pub positions : (position : ℕ) → library .position volume offset lengths position ≡ PositionAnswer.Refused refusal
     pub ranges : (from to : ℕ) (out : List ℕ)
-        → (library .runs volume offset lengths from to (length out) ≡ RunsAnswer.Refused (refusalOf number))
+        → (library .runs volume offset lengths from to (length out) ≡ RunsAnswer.Refused refusal)
         × (library .runsList volume offset lengths from to out ≡ out)
 
   -- Demand 2 on lookup. What is asked about a file is answered if all that the file needs is there, and otherwise refused, with the

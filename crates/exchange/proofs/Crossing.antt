@@ -8,7 +8,9 @@ use native.Mathlib.Omega.{arith}
 use lib.Dec.{eqb}
 use borrow.Author.Tests.{ne-eqb}
 use Rattle.number.specs.Number.{Bytes}
-use Rattle.refusal.specs.Refusal.{refusalOf}
+use Rattle.refusal.specs.Refusal.{refusalOf, refusalWith}
+use Rattle.refusal.specs.declared.Refusal.{Refusal}
+use Rattle.refusal.proofs.Laws.{with-number}
 use Rattle.format.specs.Blocks.{Block as Asked, TableLink, LinksOf}
 use Rattle.format.specs.Headers.{Header}
 use Rattle.format.specs.declared.Extent.{Extent}
@@ -25,6 +27,7 @@ use Rattle.block.specs.Shown.{shown}
 use Rattle.block.specs.declared.TableBlock.{TableBlock}
 use Rattle.block.specs.declared.Block.{Block}
 use Rattle.block.specs.declared.Block.the-variants.{Inode, Link, Unlink, Xattr, RemovedXattr, Data, Rename, Table}
+use Rattle.texts.specs.Texts.{texts, textsAt}
 use Rattle.volume.specs.Heading.{sequenceOf, headerFault, firstMark, headerAnswer}
 use Rattle.volume.specs.Reading.{readFault, nextMark, readAnswer}
 use Rattle.volume.specs.inner.Check.{checkAnswer}
@@ -42,7 +45,7 @@ use Rattle.volume.specs.declared.Verdict.the-variants as Verdict
 use Rattle.volume.specs.declared.WriteAnswer.{WriteAnswer}
 use Rattle.volume.specs.declared.WriteAnswer.the-variants as WriteAnswer
 use Rattle.volume.proofs.Whole.{header-length}
-use Rattle.volume.proofs.Steps.{Answers, ends, finds, refuses, answers}
+use Rattle.volume.proofs.Steps.{refusalAt, Answers, ends, finds, refuses, answers}
 use Rattle.volume.proofs.HeaderImage.{HeaderAnswers, accepts, rejects, header-answers}
 use Rattle.volume.proofs.Verdicts.{EndsWell, check-ends-well}
 use Rattle.volume.proofs.TableLinks.{table-rules}
@@ -79,6 +82,10 @@ either : {A : Type 0} (around : A → A) (test : Bool) (one other : A)
     → around one ≡ one → (test ≡ false → around other ≡ other) → around (cond test one other) ≡ cond test one other
 either around true one other p q = p
 either around false one other p q = q refl
+
+-- a refusal is told by the number of its fault, which is not 0
+told-by : {fault : ℕ} (refusal : Refusal) → refusal .number ≡ fault → eqb fault 0 ≡ false → eqb (refusal .number) 0 ≡ false
+told-by refusal n f = rw n f
 
 -- The header, the blocks and the check.
 
@@ -127,7 +134,7 @@ read-crosses volume mark = go (answers volume mark)
     go (finds p f) =
         ap₂ (λ block next. ReadAnswer.Found (record { block = block; number = mark .number; next = next }))
         (block-comes-back (blockAt volume (mark .offset)) (mark .number) (nextMark volume mark)) (bookmark-comes-back (nextMark volume mark))
-    go (refuses p f) = rw (ne-eqb (readFault volume mark) 0 f)
+    go (refuses p f) = rw (told-by (refusalAt volume mark) (with-number (readFault volume mark) _) (ne-eqb (readFault volume mark) 0 f))
 
 check-crosses : (verdict : Verdict) → EndsWell verdict → Crosses checkNumbers checkBack verdict
 unfolding checkBack checkNumbers
@@ -139,22 +146,25 @@ check-crosses (Verdict.Refused r) fault = rw (ne-eqb (r .refusal .number) 0 faul
 
 -- The writers.
 
-written-crosses : (fault : ℕ) (mark : Bookmark) (answer : WriteAnswer)
-    → answer ≡ cond (eqb fault 0) (WriteAnswer.Next mark) (WriteAnswer.Refused (refusalOf fault))
+written-crosses : (fault : ℕ) (refusal : Refusal) → refusal .number ≡ fault → (mark : Bookmark) (answer : WriteAnswer)
+    → answer ≡ cond (eqb fault 0) (WriteAnswer.Next mark) (WriteAnswer.Refused refusal)
     → Crosses writtenNumbers writtenBack answer
 unfolding writtenBack writtenNumbers
-written-crosses fault mark answer e =
+written-crosses fault refusal n mark answer e =
     rw e
-    (either (λ a. writtenBack (writtenNumbers a)) (eqb fault 0) (WriteAnswer.Next mark) (WriteAnswer.Refused (refusalOf fault))
-    (ap WriteAnswer.Next (bookmark-comes-back mark)) (λ f. rw f))
+    (either (λ a. writtenBack (writtenNumbers a)) (eqb fault 0) (WriteAnswer.Next mark) (WriteAnswer.Refused refusal)
+    (ap WriteAnswer.Next (bookmark-comes-back mark)) (λ f. rw (told-by refusal n f)))
 
 write-crosses : (room : ℕ) (header : Header) → Crosses writtenNumbers writtenBack (writeAnswer room header)
 unfolding writeAnswer
-write-crosses room header = written-crosses (writeFault room header) (firstMark (header .sequence)) (writeAnswer room header) refl
+write-crosses room header =
+    written-crosses (writeFault room header) (refusalOf (writeFault room header)) refl (firstMark (header .sequence)) (writeAnswer room header) refl
 
 append-crosses : (room : ℕ) (mark : Bookmark) (block : Asked) → Crosses writtenNumbers writtenBack (appendAnswer room mark block)
 unfolding appendAnswer
-append-crosses room mark block = written-crosses (appendFault room mark block) _ (appendAnswer room mark block) refl
+append-crosses room mark block =
+    written-crosses (appendFault room mark block) (refusalWith (appendFault room mark block) (texts block))
+    (with-number (appendFault room mark block) (texts block)) _ (appendAnswer room mark block) refl
 
 -- Positions and runs.
 
@@ -170,7 +180,9 @@ runs-cross : (volume : List ℕ) (offset : ℕ) (lengths : List ℕ) (from to ro
 unfolding runsAnswer runsBack runCountNumbers
 runs-cross volume offset lengths from to room =
     let fault : ℕ = runsFault volume offset lengths from to room in
-    either (λ a. runsBack (runCountNumbers a)) (eqb fault 0) _ (RunsAnswer.Refused (refusalOf fault)) refl (λ f. rw f)
+    let refusal : Refusal = refusalWith fault (textsAt volume offset) in
+    either (λ a. runsBack (runCountNumbers a)) (eqb fault 0) _ (RunsAnswer.Refused refusal) refl
+    (λ f. rw (told-by refusal (with-number fault (textsAt volume offset)) f))
 
 -- Extents, and the links of a table.
 

@@ -8,6 +8,8 @@ use lib.Text.{eqt}
 use Rattle.format.specs.Layout.{Field, field}
 use Rattle.format.specs.Blocks as format
 use Rattle.format.specs.Blocks.{idOf, layout, kindOf, fields}
+use Rattle.refusal.specs.Refusal.{refusalOf}
+use Rattle.refusal.specs.declared.Refusal.{Refusal}
 use Rattle.block.specs.Shown.{shown, parts}
 use Rattle.block.specs.declared.Part.{Part}
 use Rattle.block.specs.declared.Block.{Block}
@@ -35,9 +37,11 @@ abbrev pub partWith : (index : ℕ) (parts : List Part) → Part
 partWith index parts = getD parts index (record { offset = 0; len = 0 })
 
 -- the numbers of an answer: the block's own, the bookmark after it, its fields by name, and the places of its parts
-abbrev pub numbersWith : (refusal end id number : ℕ) (next : Bookmark) (value : String → ℕ) (parts : List Part) → BlockNumbers
+abbrev pub numbersWith : Refusal → (end id number : ℕ) (next : Bookmark) (value : String → ℕ) (parts : List Part) → BlockNumbers
 numbersWith refusal end id number next value parts = record {
-  refusal = refusal;
+  refusal = refusal .number;
+  text = refusal .text;
+  start = refusal .start;
   end = end;
   id = id;
   number = number;
@@ -68,8 +72,8 @@ numbersWith refusal end id number next value parts = record {
 -- a block, its own number and the bookmark after it
 unfoldable pub foundNumbers : Block → (number : ℕ) (next : Bookmark) → BlockNumbers
 foundNumbers block number next =
-    numbersWith 0 0 (idOf (kindOf (withoutParts block))) number next (fieldOf (withoutParts block)) (parts block)
+    numbersWith (refusalOf 0) 0 (idOf (kindOf (withoutParts block))) number next (fieldOf (withoutParts block)) (parts block)
 
--- no block: a refusal's number, or 1 for "end", and 0 for the rest
-abbrev pub noBlock : (refusal end : ℕ) → BlockNumbers
+-- no block: a refusal, or 1 for "end", and 0 for the rest
+abbrev pub noBlock : Refusal → (end : ℕ) → BlockNumbers
 noBlock refusal end = numbersWith refusal end 0 0 (record { offset = 0; due = false; last = Never; number = 0 }) (λ name. 0) []

@@ -7,11 +7,21 @@ use Rattle.exchange.specs.declared.CheckNumbers.{CheckNumbers}
 unfoldable pub checkNumbers : Verdict → CheckNumbers
 checkNumbers (Accepted a) = record {
   refusal = 0;
+  text = 0;
+  start = 0;
   sequence = a .sequence;
   blocks = a .end .number;
   offset = a .end .offset;
   timed = timedNumber (a .end .last);
   time = timeNumber (a .end .last);
 }
-checkNumbers (Refused r) =
-    record { refusal = r .refusal .number; sequence = 0; blocks = r .blocks; offset = r .offset; timed = 0; time = 0 }
+checkNumbers (Refused r) = record {
+  refusal = r .refusal .number;
+  text = r .refusal .text;
+  start = r .refusal .start;
+  sequence = 0;
+  blocks = r .blocks;
+  offset = r .offset;
+  timed = 0;
+  time = 0;
+}

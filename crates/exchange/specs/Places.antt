@@ -7,11 +7,11 @@ use Rattle.exchange.specs.declared.PlaceNumbers.{PlaceNumbers}
 use Rattle.exchange.specs.declared.RunCountNumbers.{RunCountNumbers}
 
 unfoldable pub placeNumbers : PositionAnswer → PlaceNumbers
-placeNumbers Hole = record { refusal = 0; kind = 0; volume = 0; offset = 0 }
-placeNumbers PastEnd = record { refusal = 0; kind = 2; volume = 0; offset = 0 }
-placeNumbers (Stored s) = record { refusal = 0; kind = 1; volume = s .volume; offset = s .offset .0 }
-placeNumbers (Refused r) = record { refusal = r .number; kind = 0; volume = 0; offset = 0 }
+placeNumbers Hole = record { refusal = 0; text = 0; start = 0; kind = 0; volume = 0; offset = 0 }
+placeNumbers PastEnd = record { refusal = 0; text = 0; start = 0; kind = 2; volume = 0; offset = 0 }
+placeNumbers (Stored s) = record { refusal = 0; text = 0; start = 0; kind = 1; volume = s .volume; offset = s .offset .0 }
+placeNumbers (Refused r) = record { refusal = r .number; text = r .text; start = r .start; kind = 0; volume = 0; offset = 0 }
 
 unfoldable pub runCountNumbers : RunsAnswer → RunCountNumbers
-runCountNumbers (Runs n) = record { refusal = 0; count = n }
-runCountNumbers (Unrun r) = record { refusal = r .number; count = 0 }
+runCountNumbers (Runs n) = record { refusal = 0; text = 0; start = 0; count = n }
+runCountNumbers (Unrun r) = record { refusal = r .number; text = r .text; start = r .start; count = 0 }

@@ -10,5 +10,7 @@ use Rattle.exchange.specs.declared.SourceNumbers.{SourceNumbers}
 unfoldable pub sourceOf : (first second : List ℕ) (number offset len : ℕ) → SourceNumbers
 sourceOf first second number offset len = record {
   refusal = fetchFault first second number offset len;
+  text = 0;
+  start = 0;
   which = cond (eqb (fetchFault first second number offset len) 0) (whichever first second number 0 1 0) 0;
 }

@@ -1,5 +1,6 @@
 -- What reading a header, a block, a link of a table and an extent of a file answer, as numbers.
 use Prim.Native.Nat.{_+_}
+use Rattle.refusal.specs.Refusal.{refusalOf}
 use Rattle.format.specs.Layout.{startOf}
 use Rattle.format.specs.Headers.{headerLayout}
 use Rattle.format.specs.declared.Extent.{Extent}
@@ -19,18 +20,21 @@ use Rattle.exchange.specs.declared.ExtentNumbers.{ExtentNumbers}
 unfoldable pub headingNumbers : HeaderAnswer → HeadingNumbers
 headingNumbers (Accepted h) = record {
   refusal = 0;
+  text = 0;
+  start = 0;
   sequence = h .sequence;
   next = h .next .offset;
   due = flagNumber (h .next .due);
   id = startOf "file system ID" headerLayout;
   previous = startOf "previous hash" headerLayout;
 }
-headingNumbers (Unsound r) = record { refusal = r .number; sequence = 0; next = 0; due = 0; id = 0; previous = 0 }
+headingNumbers (Unsound r) =
+    record { refusal = r .number; text = r .text; start = r .start; sequence = 0; next = 0; due = 0; id = 0; previous = 0 }
 
 unfoldable pub blockNumbers : ReadAnswer → BlockNumbers
 blockNumbers (Found f) = foundNumbers (f .block) (f .number) (f .next)
-blockNumbers End = noBlock 0 1
-blockNumbers (Refused r) = noBlock (r .number) 0
+blockNumbers End = noBlock (refusalOf 0) 1
+blockNumbers (Refused r) = noBlock r 0
 
 -- a link, and where the next one begins
 unfoldable pub linkNumbers : LinkAnswer → LinkNumbers

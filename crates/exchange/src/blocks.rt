@@ -11,6 +11,7 @@ use block::RemovedXattrBlock;
 use block::RenameBlock;
 use block::TableBlock;
 use block::XattrBlock;
+use refusal::Refusal;
 use volume::Bookmark;
 use volume::LastTime;
 ghost use mathlib.Core.Path.{_≡_};
@@ -18,19 +19,22 @@ ghost use mathlib.Core.Bool.{cond};
 ghost use mathlib.Core.List.{[]};
 ghost use lib.Text.{eqt};
 ghost use Rattle.block.specs.declared.Block.the-variants.{Inode, Link, Unlink, Xattr, RemovedXattr, Data, Rename, Table};
+ghost use Rattle.refusal.specs.Refusal.{refusalOf};
 ghost use Rattle.exchange.specs.Blocks.{numbersWith, foundNumbers, noBlock};
 
 // The numbers that an answer begins with: those that every kind of block has, and 0 for those that only some have. The
 // block's own number is stored last, by whoever has read the block.
-fn begun(refusal: u64, end: u64, id: u64, time: u64, next: Bookmark) -> BlockNumbers
-    ensures { λ r. ⌜ r ≡ numbersWith refusal end id 0 next (λ name. cond (eqt name "time") time 0) [] ⌝ }
+fn begun(end: u64, id: u64, time: u64, next: Bookmark) -> BlockNumbers
+    ensures { λ r. ⌜ r ≡ numbersWith (refusalOf 0) end id 0 next (λ name. cond (eqt name "time") time 0) [] ⌝ }
 {
     let last = next.last;
     let due = flag_number(next.due);
     let timed = timed_number(last);
     let past = time_number(last);
     BlockNumbers {
-        refusal,
+        refusal: 0,
+        text: 0,
+        start: 0,
         end,
         id,
         number: 0,
@@ -59,8 +63,8 @@ fn begun(refusal: u64, end: u64, id: u64, time: u64, next: Bookmark) -> BlockNum
     }
 }
 
-// No block: a refusal's number, or 1 for "end".
-pub(crate) fn no_block(refusal: u64, end: u64) -> BlockNumbers
+// No block: a refusal, or 1 for "end".
+pub(crate) fn no_block(refusal: Refusal, end: u64) -> BlockNumbers
     ensures { λ r. ⌜ r ≡ noBlock refusal end ⌝ }
 {
     let none = Bookmark {
@@ -69,13 +73,17 @@ pub(crate) fn no_block(refusal: u64, end: u64) -> BlockNumbers
         last: LastTime::Never,
         number: 0,
     };
-    begun(refusal, end, 0, 0, none)
+    let mut numbers = begun(end, 0, 0, none);
+    numbers.refusal = refusal.number;
+    numbers.text = refusal.text;
+    numbers.start = refusal.start;
+    numbers
 }
 
 fn inode_numbers(block: InodeBlock, next: Bookmark) -> BlockNumbers
     ensures { λ r. ⌜ r ≡ foundNumbers (Inode block) 0 next ⌝ }
 {
-    let mut numbers = begun(0, 0, 1, block.time, next);
+    let mut numbers = begun(0, 1, block.time, next);
     let rest = block.rest;
     numbers.inode = block.number;
     numbers.mode = block.mode as u64;
@@ -95,7 +103,7 @@ fn inode_numbers(block: InodeBlock, next: Bookmark) -> BlockNumbers
 fn link_numbers(block: LinkBlock, next: Bookmark) -> BlockNumbers
     ensures { λ r. ⌜ r ≡ foundNumbers (Link block) 0 next ⌝ }
 {
-    let mut numbers = begun(0, 0, 2, block.time, next);
+    let mut numbers = begun(0, 2, block.time, next);
     let name = block.name;
     numbers.child = block.child;
     numbers.parent = block.parent;
@@ -115,7 +123,7 @@ fn unlink_numbers(block: LinkBlock, next: Bookmark) -> BlockNumbers
 fn xattr_numbers(block: XattrBlock, next: Bookmark) -> BlockNumbers
     ensures { λ r. ⌜ r ≡ foundNumbers (Xattr block) 0 next ⌝ }
 {
-    let mut numbers = begun(0, 0, 4, block.time, next);
+    let mut numbers = begun(0, 4, block.time, next);
     let name = block.name;
     let value = block.value;
     numbers.inode = block.number;
@@ -129,7 +137,7 @@ fn xattr_numbers(block: XattrBlock, next: Bookmark) -> BlockNumbers
 fn removed_xattr_numbers(block: RemovedXattrBlock, next: Bookmark) -> BlockNumbers
     ensures { λ r. ⌜ r ≡ foundNumbers (RemovedXattr block) 0 next ⌝ }
 {
-    let mut numbers = begun(0, 0, 5, block.time, next);
+    let mut numbers = begun(0, 5, block.time, next);
     let name = block.name;
     numbers.inode = block.number;
     numbers.part = name.offset as u64;
@@ -140,7 +148,7 @@ fn removed_xattr_numbers(block: RemovedXattrBlock, next: Bookmark) -> BlockNumbe
 fn data_numbers(block: DataBlock, next: Bookmark) -> BlockNumbers
     ensures { λ r. ⌜ r ≡ foundNumbers (Data block) 0 next ⌝ }
 {
-    let mut numbers = begun(0, 0, 6, block.time, next);
+    let mut numbers = begun(0, 6, block.time, next);
     let payload = block.payload;
     numbers.part = payload.offset as u64;
     numbers.partlen = payload.len as u64;
@@ -150,7 +158,7 @@ fn data_numbers(block: DataBlock, next: Bookmark) -> BlockNumbers
 fn rename_numbers(block: RenameBlock, next: Bookmark) -> BlockNumbers
     ensures { λ r. ⌜ r ≡ foundNumbers (Rename block) 0 next ⌝ }
 {
-    let mut numbers = begun(0, 0, 7, block.time, next);
+    let mut numbers = begun(0, 7, block.time, next);
     let old = block.old;
     let new = block.new;
     numbers.part = old.offset as u64;
@@ -163,7 +171,7 @@ fn rename_numbers(block: RenameBlock, next: Bookmark) -> BlockNumbers
 fn table_numbers(block: TableBlock, next: Bookmark) -> BlockNumbers
     ensures { λ r. ⌜ r ≡ foundNumbers (Table block) 0 next ⌝ }
 {
-    let mut numbers = begun(0, 0, 8, 0, next);
+    let mut numbers = begun(0, 8, 0, next);
     let links = block.links;
     numbers.count = block.count;
     numbers.part = links.offset as u64;

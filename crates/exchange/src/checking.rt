@@ -19,6 +19,8 @@ pub extern "C" fn hdrfs_check(volume: &[u8]) -> CheckNumbers
             let last = end.last;
             CheckNumbers {
                 refusal: 0,
+                text: 0,
+                start: 0,
                 sequence: accepted.sequence,
                 blocks: end.number,
                 offset: end.offset as u64,
@@ -26,14 +28,19 @@ pub extern "C" fn hdrfs_check(volume: &[u8]) -> CheckNumbers
                 time: time_number(last),
             }
         }
-        Verdict::Refused(rejected) => CheckNumbers {
-            refusal: rejected.refusal.number,
-            sequence: 0,
-            blocks: rejected.blocks,
-            offset: rejected.offset as u64,
-            timed: 0,
-            time: 0,
-        },
+        Verdict::Refused(rejected) => {
+            let refusal = rejected.refusal;
+            CheckNumbers {
+                refusal: refusal.number,
+                text: refusal.text,
+                start: refusal.start,
+                sequence: 0,
+                blocks: rejected.blocks,
+                offset: rejected.offset as u64,
+                timed: 0,
+                time: 0,
+            }
+        }
     }
 }
 
@@ -44,6 +51,24 @@ pub extern "C" fn hdrfs_check_refusal(volume: &[u8]) -> u64
 {
     let all = hdrfs_check(volume);
     all.refusal
+}
+
+// Which text of the block at fault is bad; 0 where the refusal is not 10.
+#[no_mangle]
+pub extern "C" fn hdrfs_check_text(volume: &[u8]) -> u64
+    ensures { λ r. ⌜ r ≡ checkNumbers (checkAnswer (now (volume .entry))) .text ⌝ }
+{
+    let all = hdrfs_check(volume);
+    all.text
+}
+
+// Where in that text the first ill-formed sequence starts; 0 where the refusal is not 10.
+#[no_mangle]
+pub extern "C" fn hdrfs_check_start(volume: &[u8]) -> u64
+    ensures { λ r. ⌜ r ≡ checkNumbers (checkAnswer (now (volume .entry))) .start ⌝ }
+{
+    let all = hdrfs_check(volume);
+    all.start
 }
 
 // The sequence number; 0 where the volume is refused.

@@ -1,9 +1,9 @@
 // The calls for programs in other languages, as include/hdrfs.h declares them: numbers and byte slices in, numbers out.
 //
 // Each turns the answer of a public call of `volume`, `links`, `extent` or `lookup` into numbers, by a definition in specs/.
-// The structs below have the fields of those in the header file, in its order. `checking` has the check of a whole volume,
-// `walking` the header, the blocks, the links and the extents one by one, `places` positions and runs, `sources` the fetching
-// of bytes, `writing` the writing of a header and the appends.
+// The structs below have the fields of those in the header file, in its order; wherever a refusal can come, it has three of them.
+// `checking` has the check of a whole volume, `walking` the header, the blocks, the links and the extents one by one, `places`
+// positions and runs, `sources` the fetching of bytes, `writing` the writing of a header and the appends.
 mod blocks;
 pub mod checking;
 mod marks;
@@ -16,6 +16,8 @@ pub mod writing;
 #[repr(C)]
 pub struct CheckNumbers {
     pub refusal: u64,
+    pub text: u64,
+    pub start: u64,
     pub sequence: u64,
     pub blocks: u64,
     pub offset: u64,
@@ -27,6 +29,8 @@ pub struct CheckNumbers {
 #[repr(C)]
 pub struct HeadingNumbers {
     pub refusal: u64,
+    pub text: u64,
+    pub start: u64,
     pub sequence: u64,
     pub next: u64,
     pub due: u64,
@@ -38,6 +42,8 @@ pub struct HeadingNumbers {
 #[repr(C)]
 pub struct BlockNumbers {
     pub refusal: u64,
+    pub text: u64,
+    pub start: u64,
     pub end: u64,
     pub id: u64,
     pub number: u64,
@@ -93,6 +99,8 @@ pub struct ExtentNumbers {
 #[repr(C)]
 pub struct PlaceNumbers {
     pub refusal: u64,
+    pub text: u64,
+    pub start: u64,
     pub kind: u64,
     pub volume: u64,
     pub offset: u64,
@@ -102,6 +110,8 @@ pub struct PlaceNumbers {
 #[repr(C)]
 pub struct RunCountNumbers {
     pub refusal: u64,
+    pub text: u64,
+    pub start: u64,
     pub count: u64,
 }
 
@@ -109,6 +119,8 @@ pub struct RunCountNumbers {
 #[repr(C)]
 pub struct SourceNumbers {
     pub refusal: u64,
+    pub text: u64,
+    pub start: u64,
     pub which: u64,
 }
 
@@ -116,6 +128,8 @@ pub struct SourceNumbers {
 #[repr(C)]
 pub struct MarkNumbers {
     pub refusal: u64,
+    pub text: u64,
+    pub start: u64,
     pub next: u64,
     pub due: u64,
     pub timed: u64,

@@ -23,12 +23,16 @@ pub extern "C" fn hdrfs_lookup(
     match query::position(volume, offset as usize, lengths, Logical(position)) {
         PositionAnswer::Hole => PlaceNumbers {
             refusal: 0,
+            text: 0,
+            start: 0,
             kind: 0,
             volume: 0,
             offset: 0,
         },
         PositionAnswer::PastEnd => PlaceNumbers {
             refusal: 0,
+            text: 0,
+            start: 0,
             kind: 2,
             volume: 0,
             offset: 0,
@@ -37,6 +41,8 @@ pub extern "C" fn hdrfs_lookup(
             let place = stored.offset;
             PlaceNumbers {
                 refusal: 0,
+                text: 0,
+                start: 0,
                 kind: 1,
                 volume: stored.volume,
                 offset: place.0,
@@ -44,6 +50,8 @@ pub extern "C" fn hdrfs_lookup(
         }
         PositionAnswer::Refused(refusal) => PlaceNumbers {
             refusal: refusal.number,
+            text: refusal.text,
+            start: refusal.start,
             kind: 0,
             volume: 0,
             offset: 0,
@@ -63,6 +71,34 @@ pub extern "C" fn hdrfs_lookup_refusal(
 {
     let all = hdrfs_lookup(volume, offset, lengths, position);
     all.refusal
+}
+
+// Which text of the block is bad; 0 where the refusal is not 10.
+#[no_mangle]
+pub extern "C" fn hdrfs_lookup_text(
+    volume: &[u8],
+    offset: u64,
+    lengths: &[u8],
+    position: u64,
+) -> u64
+    ensures { λ r. ⌜ r ≡ placeNumbers (positionAnswer (now (volume .entry)) offset (now (lengths .entry)) position) .text ⌝ }
+{
+    let all = hdrfs_lookup(volume, offset, lengths, position);
+    all.text
+}
+
+// Where in that text the first ill-formed sequence starts; 0 where the refusal is not 10.
+#[no_mangle]
+pub extern "C" fn hdrfs_lookup_start(
+    volume: &[u8],
+    offset: u64,
+    lengths: &[u8],
+    position: u64,
+) -> u64
+    ensures { λ r. ⌜ r ≡ placeNumbers (positionAnswer (now (volume .entry)) offset (now (lengths .entry)) position) .start ⌝ }
+{
+    let all = hdrfs_lookup(volume, offset, lengths, position);
+    all.start
 }
 
 // 0 for a hole, 1 for a stored byte, 2 past the end; 0 where the lookup is refused.
@@ -130,9 +166,16 @@ pub extern "C" fn hdrfs_runs(
         Logical(to),
         out,
     ) {
-        RunsAnswer::Runs(count) => RunCountNumbers { refusal: 0, count },
+        RunsAnswer::Runs(count) => RunCountNumbers {
+            refusal: 0,
+            text: 0,
+            start: 0,
+            count,
+        },
         RunsAnswer::Refused(refusal) => RunCountNumbers {
             refusal: refusal.number,
+            text: refusal.text,
+            start: refusal.start,
             count: 0,
         },
     }

@@ -16,18 +16,28 @@ pub extern "C" fn hdrfs_fetch(
 ) -> SourceNumbers
     ensures { λ r. ⌜ r ≡ sourceOf (now (first .entry)) (now (second .entry)) number offset len ⌝ }
 {
+    // No text is looked at in fetching, so no refusal here has anything to say of one.
     let refusal = fetch_refusal(first, second, number, Physical(offset), len);
     if refusal != 0 {
-        return SourceNumbers { refusal, which: 0 };
+        return SourceNumbers {
+            refusal,
+            text: 0,
+            start: 0,
+            which: 0,
+        };
     }
     if number::read_u64(first, 36) == number {
         return SourceNumbers {
             refusal: 0,
+            text: 0,
+            start: 0,
             which: 0,
         };
     }
     SourceNumbers {
         refusal: 0,
+        text: 0,
+        start: 0,
         which: 1,
     }
 }

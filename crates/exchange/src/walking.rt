@@ -10,6 +10,7 @@ use crate::marks::flag_number;
 use extent::extent_at;
 use links::LinkAnswer;
 use links::link_from;
+use refusal::refuse;
 use volume::HeaderAnswer;
 use volume::ReadAnswer;
 use volume::heading::read_header;
@@ -36,6 +37,8 @@ pub extern "C" fn hdrfs_header(volume: &[u8]) -> HeadingNumbers
             let next = header.next;
             HeadingNumbers {
                 refusal: 0,
+                text: 0,
+                start: 0,
                 sequence: header.sequence,
                 next: next.offset as u64,
                 due: flag_number(next.due),
@@ -45,6 +48,8 @@ pub extern "C" fn hdrfs_header(volume: &[u8]) -> HeadingNumbers
         }
         HeaderAnswer::Refused(refusal) => HeadingNumbers {
             refusal: refusal.number,
+            text: refusal.text,
+            start: refusal.start,
             sequence: 0,
             next: 0,
             due: 0,
@@ -75,8 +80,8 @@ pub extern "C" fn hdrfs_read(
             numbers.number = found.number;
             numbers
         }
-        ReadAnswer::End => no_block(0, 1),
-        ReadAnswer::Refused(refusal) => no_block(refusal.number, 0),
+        ReadAnswer::End => no_block(refuse(0), 1),
+        ReadAnswer::Refused(refusal) => no_block(refusal, 0),
     }
 }
 

@@ -25,6 +25,8 @@ fn written_numbers(answer: WriteAnswer) -> MarkNumbers
             let last = mark.last;
             MarkNumbers {
                 refusal: 0,
+                text: 0,
+                start: 0,
                 next: mark.offset as u64,
                 due: flag_number(mark.due),
                 timed: timed_number(last),
@@ -34,6 +36,8 @@ fn written_numbers(answer: WriteAnswer) -> MarkNumbers
         }
         WriteAnswer::Refused(refusal) => MarkNumbers {
             refusal: refusal.number,
+            text: refusal.text,
+            start: refusal.start,
             next: 0,
             due: 0,
             timed: 0,

@@ -1,6 +1,7 @@
 pub mod Starts
 pub mod Answers
 pub mod Names
+pub mod Cut
 pub mod Keys
 pub mod Twins
 pub mod Lists

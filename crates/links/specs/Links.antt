@@ -2,7 +2,7 @@
 use Prim.Native.Nat.{ℕ, zero, suc, _+_}
 use Prim.Native.String.{String}
 use mathlib.Core.Bool.{cond}
-use mathlib.Core.List.{List, [], _∷_}
+use mathlib.Core.List.{List, [], _∷_, map}
 use lib.Dec.{ltb, leb}
 use lib.ListN.{length}
 use Rattle.number.specs.Number.{numberAt, part}
@@ -43,6 +43,10 @@ linkAt links at = record { child = linkField "child" links at; parent = parentAt
 unfoldable pub linksFrom : (links : List ℕ) (index count : ℕ) → List TableLink
 linksFrom links index zero = []
 linksFrom links index (suc count) = linkAt links (linkStart links index) ∷ linksFrom links (suc index) count
+
+-- the names of the links, in their order
+abbrev pub names : (links : List ℕ) (count : ℕ) → List (List ℕ)
+names links count = map (λ link. link .name) (linksFrom links 0 count)
 
 -- the link at a place, with its name by where that begins and how long it is
 abbrev pub foundAt : (links : List ℕ) (at : ℕ) → Link

@@ -12,6 +12,8 @@ use borrow.Author.Tests.{ltb-true, ltb-false, leb-true, eqb-true, le-leb}
 use Rattle.checks.specs.Checks.{Check, check, firstFault}
 use Rattle.format.specs.Blocks.{Kind, inodeBlock, linkBlock, unlinkBlock, xattrBlock, removedXattrBlock, dataBlock, renameBlock, linkTable}
 use Rattle.format.specs.Blocks.{FileType, regular, symbolicLink, other}
+use Rattle.refusal.proofs.Laws.{with-number}
+use Rattle.texts.specs.Texts.{textsAt}
 use Rattle.block.specs.Fields.{idAt, kindAt, fixedLength, typeAt, sizeAt, restAt}
 use Rattle.block.specs.Order.{restOrder, kindOrder}
 use Rattle.volume.specs.Heading.{sequenceOf, headerOrder, headerFault, firstMark, headerAnswer}
@@ -131,7 +133,8 @@ module _ (volume : List ℕ) (small : length volume ≤ listLimit) where
       let rest = later (foundAt volume mark) (sym (found-read volume mark p f)) (further .1) (omega arith) in
       simp length-append (omega (arith, rest))
   line-short mark h b later (refuses p f) =
-      omega (arith, refused-line-short (readFault volume mark) (mark .offset) (omega (arith, read-fault-most volume mark)) (omega arith))
+      rw (with-number (readFault volume mark) (textsAt volume (mark .offset)))
+      (omega (arith, refused-line-short (readFault volume mark) (mark .offset) (omega (arith, read-fault-most volume mark)) (omega arith)))
 
   lines-short : (mark : Bookmark) → Short mark
   lines-short =

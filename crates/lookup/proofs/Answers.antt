@@ -15,8 +15,10 @@ use Rattle.number.specs.Number.{put}
 use Rattle.number.proofs.Put.{put-past}
 use Rattle.checks.specs.Checks.{check, firstFault}
 use Rattle.checks.proofs.Laws.{stopped, continued}
-use Rattle.refusal.specs.Refusal.{refusalOf}
+use Rattle.refusal.specs.Refusal.{refusalOf, refusalWith}
+use Rattle.refusal.specs.declared.Refusal.{Refusal}
 use Rattle.block.specs.Fields.{sizeAt, restAt}
+use Rattle.texts.specs.Texts.{textsAt}
 use Rattle.runs.specs.declared.Place.{Place}
 use Rattle.runs.specs.declared.Place.the-variants as place
 use Rattle.runs.specs.declared.Counted.{Counted}
@@ -69,17 +71,19 @@ numbers-five list size from to = numbers-long list from (runLengths list from (m
 module _ (volume : List ℕ) (offset : ℕ) (lengths : List ℕ) {fault : ℕ} (told : fault ≡ lookupFault volume offset lengths) where
   -- a fault of the lookup refuses both calls
   module _ (n : fault ≡ 0 → ⊥) where
-    pub position-refused : (position : ℕ) → Refused (refusalOf fault) ≡ positionAnswer volume offset lengths position
+    pub position-refused : {refusal : Refusal} → refusal ≡ refusalWith fault (textsAt volume offset) → (position : ℕ)
+        → Refused refusal ≡ positionAnswer volume offset lengths position
     unfolding positionAnswer
-    position-refused position = rw (← told, ne-eqb fault 0 n)
+    position-refused r position = rw (← told, ne-eqb fault 0 n, r)
 
     fault-stays : (from to room : ℕ) → fault ≡ runsFault volume offset lengths from to room
     unfolding lookupFault runsFault
     fault-stays from to room = stopped (lookupOrder volume offset lengths) _ (lookup-numbered volume offset lengths) told n
 
-    pub runs-refused : (from to room : ℕ) → RunsRefused (refusalOf fault) ≡ runsAnswer volume offset lengths from to room
+    pub runs-refused : {refusal : Refusal} → refusal ≡ refusalWith fault (textsAt volume offset) → (from to room : ℕ)
+        → RunsRefused refusal ≡ runsAnswer volume offset lengths from to room
     unfolding runsAnswer
-    runs-refused from to room = rw (← fault-stays from to room, ne-eqb fault 0 n)
+    runs-refused r from to room = rw (← fault-stays from to room, ne-eqb fault 0 n, r)
 
     pub room-kept : (from to : ℕ) (out : List ℕ) → out ≡ runsRoom volume offset lengths from to out
     unfolding runsRoom
@@ -108,7 +112,7 @@ module _ (volume : List ℕ) (offset : ℕ) (lengths : List ℕ) {fault : ℕ} (
     module _ {list : List ℕ} {size : ℕ} (l : list ≡ restAt volume offset) (s : size ≡ sizeAt volume offset) (from to : ℕ) where
       pub runs-numbered : (room : ℕ) (answer : Counted) → answer ≡ rangeAnswer list size from to room
           → numbered answer ≡ runsAnswer volume offset lengths from to room
-      unfolding runsAnswer
+      unfolding runsAnswer refusalWith
       runs-numbered room answer e =
           let k = rw (l, s) at e in
           ⊎-elim

@@ -4,7 +4,7 @@ use Prim.Native.Nat.{ℕ}
 use mathlib.Core.Path.{_≡_, refl, sym, ap, _∙_}
 use mathlib.Core.Bool.{Bool, true, false, cond, _||_, and-eq-true-iff, false≢true}
 use mathlib.Core.Logic.{⊎-elim}
-use mathlib.Core.Option.{Option, none, some}
+use mathlib.Core.Option.{none}
 use mathlib.Mathlib.Data.Bool.Basic.{dichotomy, or-eq-false-eq-eq-false-and-eq-false as both-false}
 use mathlib.Core.List.{List, [], _∷_, _++_}
 use native.Mathlib.Nat.{zero-mul}
@@ -14,8 +14,8 @@ use borrow.Author.Tests.{ltb-true, eqb-true}
 use Rattle.checks.specs.Checks.{Check, check}
 use Rattle.checks.proofs.Laws.{gives, given}
 use Rattle.checks.proofs.Scan.{any-nowhere}
-use Rattle.refusal.specs.Refusal.{refusalOf}
 use Rattle.refusal.specs.declared.Refusal.{Refusal}
+use Rattle.refusal.proofs.Laws.{with-number}
 use Rattle.format.specs.declared.Extent.{Extent}
 use Rattle.format.specs.Extents.{keptLength}
 use Rattle.format.specs.Blocks.{Kind, inodeBlock, linkBlock, unlinkBlock, xattrBlock, removedXattrBlock, dataBlock, renameBlock, linkTable}
@@ -23,12 +23,11 @@ use Rattle.format.specs.Blocks.{FileType, regular, symbolicLink, other}
 use Rattle.extent.specs.Extents.{extentAt, extentCount}
 use Rattle.block.specs.Fields.{kindAt, typeAt, sizeAt, restAt}
 use Rattle.block.specs.Order.{restOrder, kindOrder}
-use Rattle.runs.specs.Positions.{keeper}
-use Rattle.runs.specs.inner.Computed.{runCount}
-use Rattle.lookup.specs.declared.PositionAnswer.the-variants.{PastEnd, Refused}
-use Rattle.lookup.specs.declared.RunsAnswer.the-variants.{Runs, Refused as RunsRefused}
+use Rattle.lookup.specs.declared.PositionAnswer.the-variants.{Refused}
+use Rattle.lookup.specs.declared.RunsAnswer.the-variants.{Refused as RunsRefused}
 use Rattle.lookup.specs.Lookup.{notFile, isStray, someStray, extentsOrder, lookupOrder, lookupFault, runsOrder, runsFault}
-use Rattle.lookup.specs.inner.Answers.{placeFor, positionAnswer, runsAnswer}
+use Rattle.lookup.specs.inner.Answers.{positionAnswer, runsAnswer}
+use Rattle.lookup.proofs.Refusals.{position-refusal, runs-refusal}
 
 -- no extent is stray
 pub never-stray : (e : Extent) → isStray e ≡ false
@@ -94,37 +93,14 @@ range-query-never-gives-18 volume offset lengths from to room e =
     false≢true (sym none ∙ given 18 (runsOrder volume offset lengths from to room) (λ z. omega arith) e)
 
 -- so no answer has it either
-no-refusal : (list : List ℕ) (position : ℕ) (refusal : Refusal) (t : Bool) (keeper : Option ℕ)
-    → cond t (placeFor list position keeper) PastEnd ≡ Refused refusal → ⊥
-no-refusal list position refusal true none e = let z : _≡_ {A = ℕ} 0 1 = cc in omega arith
-no-refusal list position refusal true (some i) e = let z : _≡_ {A = ℕ} 0 1 = cc in omega arith
-no-refusal list position refusal false keeper e = let z : _≡_ {A = ℕ} 0 1 = cc in omega arith
-
 pub no-position-is-refused-with-18 : (volume : List ℕ) (offset : ℕ) (lengths : List ℕ) (position : ℕ) (refusal : Refusal)
     → positionAnswer volume offset lengths position ≡ Refused refusal → refusal .number ≡ 18 → ⊥
-unfolding positionAnswer
 no-position-is-refused-with-18 volume offset lengths position refusal e n =
-    ⊎-elim
-    (λ q.
-    let told : Refused (refusalOf (lookupFault volume offset lengths)) ≡ Refused refusal = rw q at e in
-    let same : refusalOf (lookupFault volume offset lengths) ≡ refusal = cc in
-    lookup-never-gives-18 volume offset lengths (ap (λ (r : Refusal). r .number) same ∙ n))
-    (λ q.
-    no-refusal (restAt volume offset) position refusal (ltb position (sizeAt volume offset))
-    (keeper (restAt volume offset) position) (rw q at e))
-    (dichotomy (eqb (lookupFault volume offset lengths) 0))
+    let same = position-refusal volume offset lengths position refusal e in
+    lookup-never-gives-18 volume offset lengths (sym (with-number _ _) ∙ ap (λ (r : Refusal). r .number) same ∙ n)
 
 pub no-range-is-refused-with-18 : (volume : List ℕ) (offset : ℕ) (lengths : List ℕ) (from to room : ℕ) (refusal : Refusal)
     → runsAnswer volume offset lengths from to room ≡ RunsRefused refusal → refusal .number ≡ 18 → ⊥
-unfolding runsAnswer
 no-range-is-refused-with-18 volume offset lengths from to room refusal e n =
-    ⊎-elim
-    (λ q.
-    let told : RunsRefused (refusalOf (runsFault volume offset lengths from to room)) ≡ RunsRefused refusal = rw q at e in
-    let same : refusalOf (runsFault volume offset lengths from to room) ≡ refusal = cc in
-    range-query-never-gives-18 volume offset lengths from to room (ap (λ (r : Refusal). r .number) same ∙ n))
-    (λ q.
-    let told : Runs (runCount (restAt volume offset) (sizeAt volume offset) from to) ≡ RunsRefused refusal = rw q at e in
-    let z : _≡_ {A = ℕ} 0 1 = cc in
-    omega arith)
-    (dichotomy (eqb (runsFault volume offset lengths from to room) 0))
+    let same = runs-refusal volume offset lengths from to room refusal e in
+    range-query-never-gives-18 volume offset lengths from to room (sym (with-number _ _) ∙ ap (λ (r : Refusal). r .number) same ∙ n)

@@ -9,6 +9,7 @@ use refusal::ROOM_TOO_SMALL;
 use refusal::refuse;
 use runs::Counted;
 use runs::Place;
+use texts::refusal_at;
 ghost use mathlib.Core.Path.{_≡_};
 ghost use lib.Dec.{leb};
 ghost use lib.ListN.{length};
@@ -28,7 +29,7 @@ pub fn position(volume: &[u8], offset: usize, lengths: &[u8], position: Logical)
 {
     let fault = lookup_fault(volume, offset, lengths);
     if fault != 0 {
-        return PositionAnswer::Refused(refuse(fault));
+        return PositionAnswer::Refused(refusal_at(volume, offset, fault));
     }
     let size = Logical(number::read_u64(volume, offset + 55));
     if is_past_end(position, size) {
@@ -58,7 +59,7 @@ pub fn runs(
 {
     let fault = lookup_fault(volume, offset, lengths);
     if fault != 0 {
-        return RunsAnswer::Refused(refuse(fault));
+        return RunsAnswer::Refused(refusal_at(volume, offset, fault));
     }
     let size = Logical(number::read_u64(volume, offset + 55));
     let list = list_of(volume, offset);

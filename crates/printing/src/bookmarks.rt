@@ -1,5 +1,6 @@
 // Bookmarks, and what readings from one on answer.
 use crate::print_pair;
+use crate::print_refusal;
 use crate::print_word;
 use block::Block;
 use refusal::Refusal;
@@ -27,7 +28,8 @@ pub fn print_mark(mark: Bookmark) {
 
 // Internal: ends a line with a refusal.
 pub fn print_refused(refusal: Refusal) {
-    print_pair(b": refused ", refusal.number);
+    print_word(b": ");
+    print_refusal(refusal);
     print_word(b"\n");
 }
 

@@ -1,7 +1,9 @@
-// What the sample programs share: words, numbers, bookmarks and readings on standard output, and files read whole.
+// What the sample programs share: words, numbers, refusals, bookmarks and readings on standard output, and files read whole.
 pub mod bookmarks;
 
 use libc::STDOUT_FILENO;
+use refusal::NOT_TEXT;
+use refusal::Refusal;
 ghost use Rattle.io.specs.Counts.{Counts};
 
 // Internal: prints a word.
@@ -18,6 +20,16 @@ pub fn print_number(number: u64) {
 pub fn print_pair(word: &[u8], number: u64) {
     print_word(word);
     print_number(number);
+}
+
+// Internal: prints a refusal: its number, and which text is bad and where, if it is 10. At another number both have to be 0,
+// and are printed if they are not, so that what is compared shows it.
+pub fn print_refusal(refusal: Refusal) {
+    print_pair(b"refused ", refusal.number);
+    if refusal.number == NOT_TEXT || refusal.text != 0 || refusal.start != 0 {
+        print_pair(b" text ", refusal.text);
+        print_pair(b" start ", refusal.start);
+    }
 }
 
 // Internal: reads a file into the buffer, and answers how many bytes it has; a file that can't be opened has none.

@@ -1,8 +1,12 @@
-// A refusal: the number that says why a call refuses, and what each number means.
+// A refusal: the number that says why a call refuses, what each number means, and for a text that is not UTF-8 which text it is and
+// where in it the fault begins.
 //
-// Every crate whose calls can refuse takes the numbers from here, and makes its refusals by `refuse`.
+// Every crate whose calls can refuse takes the numbers from here, and makes its refusals by `refuse` or `refuse_text`. `bad_text`
+// and `bad_of_two` find the first fault in texts; links does so in the names of a table.
 ghost use mathlib.Core.Path.{_≡_};
-ghost use Rattle.refusal.specs.Refusal.{refusalOf};
+ghost use mathlib.Core.List.{[], _∷_};
+ghost use Rattle.refusal.specs.Refusal.{refusalOf, refusalAt};
+ghost use Rattle.refusal.specs.inner.FirstBad.{firstBad};
 
 // The volume has more bytes than are allowed.
 pub const TOO_LARGE: u64 = 1;
@@ -43,14 +47,68 @@ pub const ROOM_TOO_SMALL: u64 = 17;
 // An extent keeps a byte of a block of size 0. No call gives it: such an extent keeps nothing.
 pub const STRAY: u64 = 18;
 
-// Why a call refuses: the number of the list of refusals.
+// Why a call refuses: the number of the list of refusals. Where it is 10, `text` says which text of the block is the first that is
+// not UTF-8, counted from 0, and `start` where in that text the first ill-formed sequence starts; else both are 0.
 pub struct Refusal {
     pub number: u64,
+    pub text: u64,
+    pub start: u64,
 }
 
-// Internal: the one place that makes a refusal.
+// Among several texts: the first that is not UTF-8, and where in it the first ill-formed sequence starts. Where there is none, `text`
+// is the number of the texts and `start` is 0.
+pub struct BadText {
+    pub text: u64,
+    pub start: u64,
+}
+
+// Internal: the refusal with a number, for every number but 10.
 pub fn refuse(number: u64) -> Refusal
     ensures { λ r. ⌜ r ≡ refusalOf number ⌝ }
 {
-    Refusal { number }
+    Refusal {
+        number,
+        text: 0,
+        start: 0,
+    }
+}
+
+// Internal: the refusal 10 for the first bad text.
+pub fn refuse_text(bad: BadText) -> Refusal
+    ensures { λ r. ⌜ r ≡ refusalAt bad ⌝ }
+{
+    Refusal {
+        number: NOT_TEXT,
+        text: bad.text,
+        start: bad.start,
+    }
+}
+
+// Internal: what is bad in a single text.
+pub fn bad_text(text: &[u8]) -> BadText
+    ensures { λ r. ⌜ r ≡ firstBad (now (text .entry) ∷ []) ⌝ }
+{
+    let start = utf8::well_formed_len(text);
+    if start == text.len() {
+        return BadText { text: 1, start: 0 };
+    }
+    BadText {
+        text: 0,
+        start: start as u64,
+    }
+}
+
+// Internal: what is bad in two texts. The second is looked at only where the first is UTF-8.
+pub fn bad_of_two(first: &[u8], second: &[u8]) -> BadText
+    ensures { λ r. ⌜ r ≡ firstBad (now (first .entry) ∷ now (second .entry) ∷ []) ⌝ }
+{
+    let bad = bad_text(first);
+    if bad.text == 0 {
+        return bad;
+    }
+    let later = bad_text(second);
+    BadText {
+        text: 1 + later.text,
+        start: later.start,
+    }
 }

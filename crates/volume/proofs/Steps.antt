@@ -7,10 +7,12 @@ use native.Mathlib.Omega.{arith}
 use lib.Dec.{eqb}
 use lib.ListN.{length}
 use borrow.Author.Tests.{eqb-true, eqb-false, eq-eqb, ne-eqb}
-use Rattle.refusal.specs.Refusal.{refusalOf}
+use Rattle.refusal.specs.Refusal.{refusalWith}
+use Rattle.refusal.specs.declared.Refusal.{Refusal}
 use Rattle.block.specs.Fields.{kindAt}
 use Rattle.block.specs.inner.Decoded.{blockAt}
 use Rattle.block.proofs.Passed.{kind-passed}
+use Rattle.texts.specs.Texts.{textsAt}
 use Rattle.volume.specs.Reading.{isEnd, readFault, nextMark, readAnswer}
 use Rattle.volume.specs.declared.Bookmark.{Bookmark}
 use Rattle.volume.specs.declared.Found.{Found}
@@ -22,18 +24,22 @@ use Rattle.volume.proofs.Passed.{read-passed}
 abbrev pub foundAt : (volume : List ℕ) → Bookmark → Found
 foundAt volume mark = record { block = blockAt volume (mark .offset); number = mark .number; next = nextMark volume mark }
 
+-- the refusal at a bookmark
+abbrev pub refusalAt : (volume : List ℕ) → Bookmark → Refusal
+refusalAt volume mark = refusalWith (readFault volume mark) (textsAt volume (mark .offset))
+
 -- the three answers of a reading, each with its reason
 pub data Answers (volume : List ℕ) (mark : Bookmark) : ReadAnswer → Type 0 where
   ends : isEnd volume mark ≡ true → Answers volume mark End
   finds : isEnd volume mark ≡ false → readFault volume mark ≡ 0 → Answers volume mark (Handed (foundAt volume mark))
-  refuses : isEnd volume mark ≡ false → (readFault volume mark ≡ 0 → ⊥) → Answers volume mark (Refused (refusalOf (readFault volume mark)))
+  refuses : isEnd volume mark ≡ false → (readFault volume mark ≡ 0 → ⊥) → Answers volume mark (Refused (refusalAt volume mark))
 
 pub answers : (volume : List ℕ) (mark : Bookmark) → Answers volume mark (readAnswer volume mark)
 unfolding readAnswer
 answers volume mark = go (isEnd volume mark) refl (eqb (readFault volume mark) 0) refl
   where
     go : (end : Bool) → isEnd volume mark ≡ end → (sound : Bool) → eqb (readFault volume mark) 0 ≡ sound
-        → Answers volume mark (cond end End (cond sound (Handed (foundAt volume mark)) (Refused (refusalOf (readFault volume mark)))))
+        → Answers volume mark (cond end End (cond sound (Handed (foundAt volume mark)) (Refused (refusalAt volume mark))))
     go true p sound q = ends p
     go false p true q = finds p (eqb-true _ _ q)
     go false p false q = refuses p (eqb-false _ _ q)
@@ -44,10 +50,10 @@ module _ (volume : List ℕ) (mark : Bookmark) where
   unfolding readAnswer
   end-read e = rw e
 
-  pub refusal-read : (fault : ℕ) → isEnd volume mark ≡ false → readFault volume mark ≡ fault → (fault ≡ 0 → ⊥)
-      → Refused (refusalOf fault) ≡ readAnswer volume mark
+  pub refusal-read : (fault : ℕ) {refusal : Refusal} → isEnd volume mark ≡ false → readFault volume mark ≡ fault → (fault ≡ 0 → ⊥)
+      → refusal ≡ refusalWith fault (textsAt volume (mark .offset)) → Refused refusal ≡ readAnswer volume mark
   unfolding readAnswer
-  refusal-read fault e f n = rw (e, f, ne-eqb fault 0 n)
+  refusal-read fault e f n r = rw (e, f, ne-eqb fault 0 n, r)
 
   pub found-read : isEnd volume mark ≡ false → readFault volume mark ≡ 0 → Handed (foundAt volume mark) ≡ readAnswer volume mark
   unfolding readAnswer

@@ -1,12 +1,13 @@
 -- How the check ends: where it accepts, no table is due at the end bookmark, and where it refuses, the number is not 0, for the
 -- reading that ends it is "end" or refuses with a fault. Assumes nothing.
 use Prim.Native.Nat.{ℕ}
-use mathlib.Core.Path.{_≡_, ap, _∙_}
+use mathlib.Core.Path.{_≡_, sym, ap, _∙_}
 use mathlib.Core.Bool.{false}
 use mathlib.Core.List.{List}
 use native.Mathlib.Omega.{arith}
 use Rattle.refusal.specs.Refusal.{refusalOf}
 use Rattle.refusal.specs.declared.Refusal.{Refusal}
+use Rattle.refusal.proofs.Laws.{with-number}
 use Rattle.volume.specs.Heading.{headerFault, headerAnswer}
 use Rattle.volume.specs.Reading.{readFault, readAnswer}
 use Rattle.volume.specs.Checking.{CheckedFrom, accepted-at-the-end, refused-at-a-block, after-a-block, Checked, refused-at-the-header, after-the-header}
@@ -18,7 +19,7 @@ use Rattle.volume.specs.declared.ReadAnswer.the-variants as ReadAnswer
 use Rattle.volume.specs.declared.Verdict.{Verdict}
 use Rattle.volume.specs.declared.Verdict.the-variants as Verdict
 use Rattle.volume.specs.inner.Check.{checkAnswer}
-use Rattle.volume.proofs.Steps.{Answers, ends, finds, refuses, answers}
+use Rattle.volume.proofs.Steps.{refusalAt, Answers, ends, finds, refuses, answers}
 use Rattle.volume.proofs.HeaderImage.{HeaderAnswers, accepts, rejects, header-answers}
 use Rattle.volume.proofs.OneCall.{end-sound}
 use Rattle.volume.proofs.Checked.{checked}
@@ -34,7 +35,7 @@ read-refusal volume mark refusal = go (answers volume mark)
     go : {a : ReadAnswer} → Answers volume mark a → a ≡ ReadAnswer.Refused refusal → refusal .number ≡ 0 → ⊥
     go (ends p) e z = let clash : _≡_ {A = ℕ} 0 1 = cc in omega arith
     go (finds p f) e z = let clash : _≡_ {A = ℕ} 0 1 = cc in omega arith
-    go (refuses p f) e z = let same : refusalOf (readFault volume mark) ≡ refusal = cc in f (ap (λ r. r .number) same ∙ z)
+    go (refuses p f) e z = let same : refusalAt volume mark ≡ refusal = cc in f (sym (with-number (readFault volume mark) _) ∙ ap (λ r. r .number) same ∙ z)
 
 header-refusal : (volume : List ℕ) (refusal : Refusal) → headerAnswer volume ≡ HeaderAnswer.Refused refusal → refusal .number ≡ 0 → ⊥
 header-refusal volume refusal = go (header-answers volume)

@@ -11,7 +11,7 @@ use borrow.Author.Tests.{eq-eqb, ne-eqb}
 use Rattle.number.specs.Number.{put}
 use Rattle.checks.specs.Checks.{Check, check, firstFault}
 use Rattle.checks.proofs.Laws.{numbered, firstFault-append}
-use Rattle.refusal.specs.Refusal.{refusalOf}
+use Rattle.refusal.specs.Refusal.{refusalOf, refusalWith}
 use Rattle.refusal.specs.declared.Refusal.{Refusal}
 use Rattle.format.specs.Extents.{top}
 use Rattle.format.specs.Blocks.{Block, kindOf, body, image, BlockRules}
@@ -19,6 +19,7 @@ use Rattle.format.specs.Headers.{Header, headerImage}
 use Rattle.format.specs.Readings.{timeOf}
 use Rattle.block.proofs.Ids.{isTable}
 use Rattle.format.proofs.Images.{sizeOf, length-image}
+use Rattle.texts.specs.Texts.{texts}
 use Rattle.request.specs.Requests.{requestOrder}
 use Rattle.request.specs.Asking.{Sized}
 use Rattle.request.proofs.Rules.{request-numbered, request-sound}
@@ -80,7 +81,7 @@ module _ {buffer : List ℕ} {mark : Bookmark} {block : Block} {len fault : ℕ}
   keeps z = request-sound block (t .sized) (append-passed (length buffer) mark block (sym (t .fault-is) ∙ z) .own)
 
   -- a refusal leaves the buffer as it was
-  pub refused : {refusal : Refusal} → refusal ≡ refusalOf fault → (fault ≡ 0 → ⊥)
+  pub refused : {refusal : Refusal} → refusal ≡ refusalWith fault (texts block) → (fault ≡ 0 → ⊥)
       → (Refused refusal ≡ appendAnswer (length buffer) mark block) × ((buffer ≡ appendBuffer buffer mark block) × Sized block)
   unfolding appendAnswer appendBuffer
   refused e n = (rw (← t .fault-is, ne-eqb fault 0 n, e), (rw (← t .fault-is, ne-eqb fault 0 n), t .sized))

@@ -6,11 +6,12 @@ use mathlib.Core.List.{List, [], _∷_, _++_}
 use lib.Dec.{leb, eqb}
 use lib.ListN.{length}
 use Rattle.checks.specs.Checks.{Check, check, firstFault}
-use Rattle.refusal.specs.Refusal.{refusalOf}
+use Rattle.refusal.specs.Refusal.{refusalWith}
 use Rattle.format.specs.Extents.{top}
 use Rattle.block.specs.Fields.{kindAt, bodyEnd}
 use Rattle.block.specs.Order.{volumeLimit, blockOrder}
 use Rattle.block.specs.inner.Decoded.{blockAt, timeOfBlock}
+use Rattle.texts.specs.Texts.{textsAt}
 use Rattle.volume.specs.declared.LastTime.{LastTime}
 use Rattle.volume.specs.declared.LastTime.the-variants.{Never, At}
 use Rattle.volume.specs.declared.Bookmark.{Bookmark}
@@ -70,4 +71,4 @@ readAnswer volume mark =
     cond (isEnd volume mark) End
     (cond (eqb (readFault volume mark) 0)
     (Found (record { block = blockAt volume (mark .offset); number = mark .number; next = nextMark volume mark }))
-    (Refused (refusalOf (readFault volume mark))))
+    (Refused (refusalWith (readFault volume mark) (textsAt volume (mark .offset)))))

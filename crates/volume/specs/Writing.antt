@@ -7,11 +7,12 @@ use lib.Dec.{ltb, eqb}
 use lib.ListN.{length}
 use Rattle.number.specs.Number.{Bytes, put}
 use Rattle.checks.specs.Checks.{Check, check, firstFault}
-use Rattle.refusal.specs.Refusal.{refusalOf}
+use Rattle.refusal.specs.Refusal.{refusalOf, refusalWith}
 use Rattle.format.specs.Blocks.{idOf, Block, kindOf, image}
 use Rattle.format.specs.Headers.{Header, headerImage}
 use Rattle.format.specs.Readings.{timeOf}
 use Rattle.block.specs.Order.{volumeLimit}
+use Rattle.texts.specs.Texts.{texts}
 use Rattle.request.specs.Requests.{requestOrder}
 use Rattle.volume.specs.Heading.{hashWrong, firstMark}
 use Rattle.volume.specs.Reading.{mayFollow, countFull, markAfter}
@@ -46,7 +47,7 @@ unfoldable pub appendAnswer : (room : ℕ) → Bookmark → Block → WriteAnswe
 appendAnswer room mark block =
     cond (eqb (appendFault room mark block) 0)
     (Next (markAfter mark (mark .offset + length (image block)) (timeOf block)))
-    (Refused (refusalOf (appendFault room mark block)))
+    (Refused (refusalWith (appendFault room mark block) (texts block)))
 
 -- the buffer with the image at the bookmark's offset; as it was on refusal
 unfoldable pub appendBuffer : (buffer : List ℕ) → Bookmark → Block → List ℕ

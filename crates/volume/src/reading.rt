@@ -9,6 +9,7 @@ use block::limits::VOLUME_LIMIT;
 use refusal::OVER_LIMIT;
 use refusal::TIME_LOWER;
 use refusal::refuse;
+use texts::refusal_at;
 ghost use mathlib.Core.Path.{_≡_};
 ghost use Prim.Native.Nat.{_<_};
 ghost use Rattle.checks.specs.Checks.{firstFault};
@@ -121,7 +122,7 @@ impl Bookmark {
         }
         let fault = block::block_fault(volume, offset, due);
         if fault != 0 {
-            return ReadAnswer::Refused(refuse(fault));
+            return ReadAnswer::Refused(refusal_at(volume, offset, fault));
         }
         let decoded = block::decode(volume, offset);
         let found = decoded.block;

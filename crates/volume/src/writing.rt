@@ -1,7 +1,8 @@
 // Appending blocks to a volume in a lent buffer, each at the bookmark that the call before answered.
 //
 // Every append goes the same way: the checks of the place, of what is asked for, of the time and of the room, and then
-// the image and the bookmark after it. A refusal leaves the buffer as it was.
+// the image and the bookmark after it. A refusal leaves the buffer as it was, and is made by crate `texts`, which knows where a text
+// is at fault.
 use crate::Bookmark;
 use crate::LastTime;
 use crate::WriteAnswer;
@@ -16,6 +17,10 @@ use refusal::ROOM_TOO_SMALL;
 use refusal::TIME_LOWER;
 use refusal::TOO_LARGE;
 use refusal::refuse;
+use texts::inode_refusal;
+use texts::name_refusal;
+use texts::rename_refusal;
+use texts::table_refusal;
 ghost use mathlib.Core.Path.{_≡_};
 ghost use Prim.Native.Nat.{_+_};
 ghost use lib.Dec.{ltb};
@@ -84,7 +89,7 @@ impl Bookmark {
         );
         let fault = append_fault(self, false, asked, when, INODE_SIZE, body, buf.len());
         if fault != 0 {
-            return WriteAnswer::Refused(refuse(fault));
+            return WriteAnswer::Refused(inode_refusal(fault, mode, rest));
         }
         encode::write_inode(
             buf,
@@ -125,7 +130,7 @@ impl Bookmark {
         let asked = request::link_fault(time, child, parent, name);
         let fault = append_fault(self, false, asked, when, LINK_SIZE, body, buf.len());
         if fault != 0 {
-            return WriteAnswer::Refused(refuse(fault));
+            return WriteAnswer::Refused(name_refusal(fault, name));
         }
         encode::write_link(buf, offset, time, child, parent, name);
         WriteAnswer::Next(mark_after(self, offset + LINK_SIZE + body, when))
@@ -152,7 +157,7 @@ impl Bookmark {
         let asked = request::unlink_fault(time, child, parent, name);
         let fault = append_fault(self, false, asked, when, LINK_SIZE, body, buf.len());
         if fault != 0 {
-            return WriteAnswer::Refused(refuse(fault));
+            return WriteAnswer::Refused(name_refusal(fault, name));
         }
         encode::write_unlink(buf, offset, time, child, parent, name);
         WriteAnswer::Next(mark_after(self, offset + LINK_SIZE + body, when))
@@ -179,7 +184,7 @@ impl Bookmark {
         let asked = request::xattr_fault(time, inode, name, value);
         let fault = append_fault(self, false, asked, when, XATTR_SIZE, body, buf.len());
         if fault != 0 {
-            return WriteAnswer::Refused(refuse(fault));
+            return WriteAnswer::Refused(name_refusal(fault, name));
         }
         encode::write_xattr(buf, offset, time, inode, name, value);
         WriteAnswer::Next(mark_after(self, offset + XATTR_SIZE + body, when))
@@ -205,7 +210,7 @@ impl Bookmark {
         let asked = request::removed_xattr_fault(time, inode, name);
         let fault = append_fault(self, false, asked, when, REMOVED_SIZE, body, buf.len());
         if fault != 0 {
-            return WriteAnswer::Refused(refuse(fault));
+            return WriteAnswer::Refused(name_refusal(fault, name));
         }
         encode::write_removed_xattr(buf, offset, time, inode, name);
         WriteAnswer::Next(mark_after(self, offset + REMOVED_SIZE + body, when))
@@ -244,7 +249,7 @@ impl Bookmark {
         let asked = request::rename_fault(time, old, new);
         let fault = append_fault(self, false, asked, when, RENAME_SIZE, body, buf.len());
         if fault != 0 {
-            return WriteAnswer::Refused(refuse(fault));
+            return WriteAnswer::Refused(rename_refusal(fault, old, new));
         }
         encode::write_rename(buf, offset, time, old, new);
         WriteAnswer::Next(mark_after(self, offset + RENAME_SIZE + body, when))
@@ -264,7 +269,7 @@ impl Bookmark {
         let asked = request::table_fault(count, links);
         let fault = append_fault(self, true, asked, when, TABLE_SIZE, body, buf.len());
         if fault != 0 {
-            return WriteAnswer::Refused(refuse(fault));
+            return WriteAnswer::Refused(table_refusal(fault, count, links));
         }
         encode::write_table(buf, offset, count, links);
         WriteAnswer::Next(mark_after(self, offset + TABLE_SIZE + body, when))

@@ -4,7 +4,6 @@
 use Prim.Native.Nat.{ℕ}
 use mathlib.Core.Bool.{cond}
 use lib.Dec.{eqb}
-use Rattle.refusal.specs.Refusal.{refusalOf}
 use Rattle.refusal.specs.declared.Refusal.{Refusal}
 use Rattle.format.specs.Blocks.{Kind, inodeBlock, linkBlock, unlinkBlock, xattrBlock, removedXattrBlock, dataBlock, renameBlock, linkTable}
 use Rattle.format.specs.declared.Extent.{Extent}
@@ -38,14 +37,15 @@ use Rattle.exchange.specs.declared.PlaceNumbers.{PlaceNumbers}
 use Rattle.exchange.specs.declared.RunCountNumbers.{RunCountNumbers}
 use Rattle.exchange.specs.declared.MarkNumbers.{MarkNumbers}
 
--- the refusal with the number that is told, or where that is 0 the other answer
-abbrev pub refusedOr : {Answer : Type 0} (refusal : ℕ) (refused : Refusal → Answer) (other : Answer) → Answer
-refusedOr refusal refused other = cond (eqb refusal 0) other (refused (refusalOf refusal))
+-- the refusal that three numbers tell, or where the first is 0 the other answer
+abbrev pub refusedOr : {Answer : Type 0} (number text start : ℕ) (refused : Refusal → Answer) (other : Answer) → Answer
+refusedOr number text start refused other =
+    cond (eqb number 0) other (refused (record { number = number; text = text; start = start }))
 
 -- the header, whose bookmark has no last time and no block before it
 unfoldable pub headerBack : HeadingNumbers → HeaderAnswer
 headerBack n =
-    refusedOr (n .refusal) HeaderAnswer.Refused
+    refusedOr (n .refusal) (n .text) (n .start) HeaderAnswer.Refused
     (HeaderAnswer.Accepted (record { sequence = n .sequence; next = bookmarkOf (n .next) (n .due) 0 0 0 }))
 
 -- the variable parts of a block
@@ -96,29 +96,29 @@ foundBack n =
 
 unfoldable pub readBack : BlockNumbers → ReadAnswer
 readBack n =
-    refusedOr (n .refusal) ReadAnswer.Refused (cond (eqb (n .end) 0) (ReadAnswer.Found (foundBack n)) ReadAnswer.End)
+    refusedOr (n .refusal) (n .text) (n .start) ReadAnswer.Refused (cond (eqb (n .end) 0) (ReadAnswer.Found (foundBack n)) ReadAnswer.End)
 
 -- the check, at whose end bookmark no table is due
 unfoldable pub checkBack : CheckNumbers → Verdict
 checkBack n =
-    refusedOr (n .refusal)
+    refusedOr (n .refusal) (n .text) (n .start)
     (λ refusal. Verdict.Refused (record { refusal = refusal; offset = n .offset; blocks = n .blocks }))
     (Verdict.Accepted (record { sequence = n .sequence; end = bookmarkOf (n .offset) 0 (n .timed) (n .time) (n .blocks) }))
 
 unfoldable pub writtenBack : MarkNumbers → WriteAnswer
 writtenBack n =
-    refusedOr (n .refusal) WriteAnswer.Refused (WriteAnswer.Next (bookmarkOf (n .next) (n .due) (n .timed) (n .last) (n .number)))
+    refusedOr (n .refusal) (n .text) (n .start) WriteAnswer.Refused (WriteAnswer.Next (bookmarkOf (n .next) (n .due) (n .timed) (n .last) (n .number)))
 
 -- a position: kind 0 is a hole, 1 a stored byte, and 2 past the end
 unfoldable pub positionBack : PlaceNumbers → PositionAnswer
 positionBack n =
-    refusedOr (n .refusal) PositionAnswer.Refused
+    refusedOr (n .refusal) (n .text) (n .start) PositionAnswer.Refused
     (cond (eqb (n .kind) 0) PositionAnswer.Hole
     (cond (eqb (n .kind) 1) (PositionAnswer.Stored (record { volume = n .volume; offset = record { 0 = n .offset } }))
     PositionAnswer.PastEnd))
 
 unfoldable pub runsBack : RunCountNumbers → RunsAnswer
-runsBack n = refusedOr (n .refusal) RunsAnswer.Refused (RunsAnswer.Runs (n .count))
+runsBack n = refusedOr (n .refusal) (n .text) (n .start) RunsAnswer.Refused (RunsAnswer.Runs (n .count))
 
 unfoldable pub linkBack : LinkNumbers → LinkAnswer
 linkBack n =

@@ -7,9 +7,10 @@ use mathlib.Core.List.{List}
 use lib.Dec.{ltb, eqb}
 use lib.ListN.{length}
 use Rattle.number.specs.Number.{put}
-use Rattle.refusal.specs.Refusal.{refusalOf}
+use Rattle.refusal.specs.Refusal.{refusalWith}
 use Rattle.extent.specs.Extents.{extentAt}
 use Rattle.block.specs.Fields.{sizeAt, restAt}
+use Rattle.texts.specs.Texts.{textsAt}
 use Rattle.runs.specs.inner.Stored.{storedAt}
 use Rattle.runs.specs.Positions.{keeper}
 use Rattle.runs.specs.inner.Computed.{runCount, rangeNumbers}
@@ -29,13 +30,13 @@ unfoldable pub positionAnswer : (volume : List ℕ) (offset : ℕ) (lengths : Li
 positionAnswer volume offset lengths position =
     cond (eqb (lookupFault volume offset lengths) 0)
     (cond (ltb position (sizeAt volume offset)) (placeFor (restAt volume offset) position (keeper (restAt volume offset) position)) PastEnd)
-    (Refused (refusalOf (lookupFault volume offset lengths)))
+    (Refused (refusalWith (lookupFault volume offset lengths) (textsAt volume offset)))
 
 unfoldable pub runsAnswer : (volume : List ℕ) (offset : ℕ) (lengths : List ℕ) (from to room : ℕ) → RunsAnswer
 runsAnswer volume offset lengths from to room =
     cond (eqb (runsFault volume offset lengths from to room) 0)
     (Runs (runCount (restAt volume offset) (sizeAt volume offset) from to))
-    (RunsRefused (refusalOf (runsFault volume offset lengths from to room)))
+    (RunsRefused (refusalWith (runsFault volume offset lengths from to room) (textsAt volume offset)))
 
 -- what the lent list then holds: five numbers for each run, and past them what it held before; on refusal all of that
 unfoldable pub runsRoom : (volume : List ℕ) (offset : ℕ) (lengths : List ℕ) (from to : ℕ) (out : List ℕ) → List ℕ

@@ -27,7 +27,7 @@ returns c =
 
 returns-2 : tie.Need-returns-2
 unfolding checkNumbers
-returns-2 c = rw (← c .before .before .before .check .ensures, c .before .rejected .given .1)
+returns-2 c = rw (← c .before .before .before .before .check .ensures, c .before .before .rejected .given .1)
 
 pub hdrfs-check-spec : {M : Type 1} → statement M
 hdrfs-check-spec =

@@ -1,6 +1,7 @@
 -- The five numbers are the bookmark, and each answer of the reading becomes the numbers that `blockNumbers` gives it.
+use mathlib.Core.Path.{ap, _∙_}
 use borrow.Author.Needs.{needs}
-use Rattle.exchange.specs.Blocks.{foundNumbers}
+use Rattle.exchange.specs.Blocks.{foundNumbers, noBlock}
 use Rattle.exchange.specs.Walking.{blockNumbers}
 use Rattle.exchange.proofs.walking.hdrfs_read.Statement.{statement}
 use Rattle.exchange.proofs.walking.hdrfs_read.Tie as tie
@@ -19,6 +20,9 @@ block-numbers-requires c κs = search needs
 
 enum-told : tie.Need-enum-told
 enum-told c = search needs
+
+refuse-requires : tie.Need-refuse-requires
+refuse-requires c κs = search needs
 
 no-block-requires : tie.Need-no-block-requires
 no-block-requires c κs = search needs
@@ -39,9 +43,10 @@ returns c =
 returns-2 : tie.Need-returns-2
 unfolding blockNumbers
 returns-2 c =
-    let e = c .before in
+    let e = c .before .before in
     let r = e .before .before in
-    rw (← r .before .bookmark-of .ensures, ← r .read .ensures, e .enum-told .given .1) (c .no-block .ensures)
+    rw (← r .before .bookmark-of .ensures, ← r .read .ensures, e .enum-told .given .1)
+    (c .no-block .ensures ∙ ap (λ refusal. noBlock refusal 1) (c .before .refuse .ensures))
 
 returns-3 : tie.Need-returns-3
 unfolding blockNumbers
@@ -59,6 +64,7 @@ hdrfs-read-spec =
     enum-known-found
     block-numbers-requires
     enum-told
+    refuse-requires
     no-block-requires
     enum-known-refusal
     no-block-requires-2

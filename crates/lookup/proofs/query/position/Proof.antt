@@ -27,11 +27,11 @@ answered c =
 lookup-fault-requires : tie.Need-lookup-fault-requires
 lookup-fault-requires c κs = search needs
 
-refuse-requires : tie.Need-refuse-requires
-refuse-requires c κs = search needs
+refusal-at-requires : tie.Need-refusal-at-requires
+refusal-at-requires c κs = search needs
 
 returns : tie.Need-returns
-returns c = rw (c .refuse .ensures) (position-refused _ _ _ (c .before .before .lookup-fault .ensures) (c .before .if1 .taken) _)
+returns c = position-refused _ _ _ (c .before .before .lookup-fault .ensures) (c .before .if1 .taken) (c .refusal-at .ensures) _
 
 add-read-u64 : tie.Need-add-read-u64
 add-read-u64 c = omega (arith, file c .whole)
@@ -73,7 +73,7 @@ position-spec =
     tie.close
     (tie.spec
     lookup-fault-requires
-    refuse-requires
+    refusal-at-requires
     returns
     add-read-u64
     read-u64-requires

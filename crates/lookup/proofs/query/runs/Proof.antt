@@ -30,14 +30,14 @@ answered c =
 lookup-fault-requires : tie.Need-lookup-fault-requires
 lookup-fault-requires c κs = search needs
 
-refuse-requires : tie.Need-refuse-requires
-refuse-requires c κs = search needs
+refusal-at-requires : tie.Need-refusal-at-requires
+refusal-at-requires c κs = search needs
 
 returns : tie.Need-returns
 returns c =
     let told = c .before .before .lookup-fault .ensures in
     let n = c .before .if1 .taken in
-    (rw (c .refuse .ensures) (runs-refused _ _ _ told n _ _ _), room-kept _ _ _ told n _ _ _)
+    (runs-refused _ _ _ told n (c .refusal-at .ensures) _ _ _, room-kept _ _ _ told n _ _ _)
 
 add-read-u64 : tie.Need-add-read-u64
 add-read-u64 c = omega (arith, file c .whole)
@@ -57,8 +57,8 @@ enum-known-counted c = search needs
 enum-told : tie.Need-enum-told
 enum-told c = search needs
 
-refuse-requires-2 : tie.Need-refuse-requires-2
-refuse-requires-2 c κs = search needs
+refuse-requires : tie.Need-refuse-requires
+refuse-requires c κs = search needs
 
 same-length : tie.Need-same-length
 same-length c = search needs
@@ -74,14 +74,14 @@ same-length-2 c = search needs
 returns-3 : tie.Need-returns-3
 returns-3 c =
     let r = answered (c .before .before .before .before .before) in
-    (rw (c .refuse2 .ensures) (ap numbered (sym (c .before .enum-told .given .1)) ∙ r .0), r .1)
+    (rw (c .refuse .ensures) (ap numbered (sym (c .before .enum-told .given .1)) ∙ r .0), r .1)
 
 pub runs-spec : {M : Type 1} → statement M
 runs-spec =
     tie.close
     (tie.spec
     lookup-fault-requires
-    refuse-requires
+    refusal-at-requires
     returns
     add-read-u64
     read-u64-requires
@@ -89,7 +89,7 @@ runs-spec =
     range-requires
     enum-known-counted
     enum-told
-    refuse-requires-2
+    refuse-requires
     same-length
     returns-2
     same-length-2

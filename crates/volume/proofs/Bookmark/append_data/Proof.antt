@@ -1,5 +1,5 @@
 -- The checks decide, by the laws that hold for every block; without a fault the image is written and the bookmark goes on.
-use mathlib.Core.Path.{_≡_, refl}
+use mathlib.Core.Path.{_≡_, refl, _∙_}
 use mathlib.Core.List.{[]}
 use native.Mathlib.Omega.{arith}
 use lib.ListN.{length}
@@ -7,6 +7,7 @@ use borrow.Author.Needs.{needs}
 use Rattle.format.specs.Blocks.{Data}
 use Rattle.request.specs.Asking.{Sized}
 use Rattle.checks.specs.Checks.{firstFault}
+use Rattle.refusal.proofs.Laws.{without-texts}
 use Rattle.volume.proofs.Writers.{Told, told, room-left, counted, refused, accepted}
 use Rattle.volume.proofs.Bookmark.append_data.Statement.{statement}
 use Rattle.volume.proofs.Bookmark.append_data.Tie as tie
@@ -33,7 +34,7 @@ refuse-requires : tie.Need-refuse-requires
 refuse-requires c κs = search needs
 
 returns : tie.Need-returns
-returns c = refused (here (c .before .before)) (c .refuse .ensures) (c .before .if1 .taken)
+returns c = refused (here (c .before .before)) (c .refuse .ensures ∙ without-texts _) (c .before .if1 .taken)
 
 write-data-requires : tie.Need-write-data-requires
 write-data-requires c κs = omega (arith, room-left (here (c .before .before)) (c .before .if1 .left))

@@ -22,11 +22,11 @@ here c =
     told (a .buf .now) (a .self) (Inode (record { inode = a .inode; time = a .time; mode = a .mode; uid = a .uid; gid = a .gid; atime = a .atime; mtime = a .mtime; ctime = a .ctime; btime = a .btime; size = a .size; rest = a .rest .now }))
     (c .before .inode-fault .ensures) refl (c .append-fault .ensures)
 
-refuse-requires : tie.Need-refuse-requires
-refuse-requires c κs = search needs
+inode-refusal-requires : tie.Need-inode-refusal-requires
+inode-refusal-requires c κs = search needs
 
 returns : tie.Need-returns
-returns c = refused (here (c .before .before)) (c .refuse .ensures) (c .before .if1 .taken)
+returns c = refused (here (c .before .before)) (c .inode-refusal .ensures) (c .before .if1 .taken)
 
 write-inode-requires : tie.Need-write-inode-requires
 write-inode-requires c κs = omega (arith, room-left (here (c .before .before)) (c .before .if1 .left))
@@ -54,7 +54,7 @@ append-inode-spec =
     (tie.spec
     inode-fault-requires
     append-fault-requires
-    refuse-requires
+    inode-refusal-requires
     returns
     write-inode-requires
     add-mark-after

@@ -22,11 +22,11 @@ here c =
     told (a .buf .now) (a .self) (Link (record { time = a .time; child = a .child; parent = a .parent; name = a .name .now }))
     (c .before .link-fault .ensures) refl (c .append-fault .ensures)
 
-refuse-requires : tie.Need-refuse-requires
-refuse-requires c κs = search needs
+name-refusal-requires : tie.Need-name-refusal-requires
+name-refusal-requires c κs = search needs
 
 returns : tie.Need-returns
-returns c = refused (here (c .before .before)) (c .refuse .ensures) (c .before .if1 .taken)
+returns c = refused (here (c .before .before)) (c .name-refusal .ensures) (c .before .if1 .taken)
 
 write-link-requires : tie.Need-write-link-requires
 write-link-requires c κs =
@@ -57,7 +57,7 @@ append-link-spec =
     (tie.spec
     link-fault-requires
     append-fault-requires
-    refuse-requires
+    name-refusal-requires
     returns
     write-link-requires
     add-mark-after

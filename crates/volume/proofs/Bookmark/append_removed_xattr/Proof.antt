@@ -22,11 +22,11 @@ here c =
     told (a .buf .now) (a .self) (RemovedXattr (record { time = a .time; inode = a .inode; name = a .name .now }))
     (c .before .removed-xattr-fault .ensures) refl (c .append-fault .ensures)
 
-refuse-requires : tie.Need-refuse-requires
-refuse-requires c κs = search needs
+name-refusal-requires : tie.Need-name-refusal-requires
+name-refusal-requires c κs = search needs
 
 returns : tie.Need-returns
-returns c = refused (here (c .before .before)) (c .refuse .ensures) (c .before .if1 .taken)
+returns c = refused (here (c .before .before)) (c .name-refusal .ensures) (c .before .if1 .taken)
 
 write-removed-xattr-requires : tie.Need-write-removed-xattr-requires
 write-removed-xattr-requires c κs =
@@ -57,7 +57,7 @@ append-removed-xattr-spec =
     (tie.spec
     removed-xattr-fault-requires
     append-fault-requires
-    refuse-requires
+    name-refusal-requires
     returns
     write-removed-xattr-requires
     add-mark-after

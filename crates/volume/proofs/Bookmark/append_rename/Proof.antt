@@ -26,11 +26,11 @@ here c =
     told (a .buf .now) (a .self) (Rename (record { time = a .time; old = a .old .now; new = a .new .now }))
     (c .before .rename-fault .ensures) (sym (length-append (a .old .now) (a .new .now))) (c .append-fault .ensures)
 
-refuse-requires : tie.Need-refuse-requires
-refuse-requires c κs = search needs
+rename-refusal-requires : tie.Need-rename-refusal-requires
+rename-refusal-requires c κs = search needs
 
 returns : tie.Need-returns
-returns c = refused (here (c .before .before)) (c .refuse .ensures) (c .before .if1 .taken)
+returns c = refused (here (c .before .before)) (c .rename-refusal .ensures) (c .before .if1 .taken)
 
 write-rename-requires : tie.Need-write-rename-requires
 write-rename-requires c κs =
@@ -63,7 +63,7 @@ append-rename-spec =
     add-body
     rename-fault-requires
     append-fault-requires
-    refuse-requires
+    rename-refusal-requires
     returns
     write-rename-requires
     add-mark-after

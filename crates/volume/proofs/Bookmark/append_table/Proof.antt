@@ -22,11 +22,11 @@ here c =
     told (a .buf .now) (a .self) (Table (record { count = a .count; links = a .links .now }))
     (c .before .table-fault .ensures) refl (c .append-fault .ensures)
 
-refuse-requires : tie.Need-refuse-requires
-refuse-requires c κs = search needs
+table-refusal-requires : tie.Need-table-refusal-requires
+table-refusal-requires c κs = search needs
 
 returns : tie.Need-returns
-returns c = refused (here (c .before .before)) (c .refuse .ensures) (c .before .if1 .taken)
+returns c = refused (here (c .before .before)) (c .table-refusal .ensures) (c .before .if1 .taken)
 
 write-table-requires : tie.Need-write-table-requires
 write-table-requires c κs = omega (arith, room-left (here (c .before .before)) (c .before .if1 .left))
@@ -54,7 +54,7 @@ append-table-spec =
     (tie.spec
     table-fault-requires
     append-fault-requires
-    refuse-requires
+    table-refusal-requires
     returns
     write-table-requires
     add-mark-after

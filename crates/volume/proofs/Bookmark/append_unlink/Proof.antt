@@ -22,11 +22,11 @@ here c =
     told (a .buf .now) (a .self) (Unlink (record { time = a .time; child = a .child; parent = a .parent; name = a .name .now }))
     (c .before .unlink-fault .ensures) refl (c .append-fault .ensures)
 
-refuse-requires : tie.Need-refuse-requires
-refuse-requires c κs = search needs
+name-refusal-requires : tie.Need-name-refusal-requires
+name-refusal-requires c κs = search needs
 
 returns : tie.Need-returns
-returns c = refused (here (c .before .before)) (c .refuse .ensures) (c .before .if1 .taken)
+returns c = refused (here (c .before .before)) (c .name-refusal .ensures) (c .before .if1 .taken)
 
 write-unlink-requires : tie.Need-write-unlink-requires
 write-unlink-requires c κs =
@@ -57,7 +57,7 @@ append-unlink-spec =
     (tie.spec
     unlink-fault-requires
     append-fault-requires
-    refuse-requires
+    name-refusal-requires
     returns
     write-unlink-requires
     add-mark-after

@@ -26,11 +26,11 @@ here c =
     told (a .buf .now) (a .self) (Xattr (record { time = a .time; inode = a .inode; name = a .name .now; value = a .value .now }))
     (c .before .xattr-fault .ensures) (sym (length-append (a .name .now) (a .value .now))) (c .append-fault .ensures)
 
-refuse-requires : tie.Need-refuse-requires
-refuse-requires c κs = search needs
+name-refusal-requires : tie.Need-name-refusal-requires
+name-refusal-requires c κs = search needs
 
 returns : tie.Need-returns
-returns c = refused (here (c .before .before)) (c .refuse .ensures) (c .before .if1 .taken)
+returns c = refused (here (c .before .before)) (c .name-refusal .ensures) (c .before .if1 .taken)
 
 write-xattr-requires : tie.Need-write-xattr-requires
 write-xattr-requires c κs =
@@ -63,7 +63,7 @@ append-xattr-spec =
     add-body
     xattr-fault-requires
     append-fault-requires
-    refuse-requires
+    name-refusal-requires
     returns
     write-xattr-requires
     add-mark-after

@@ -1,8 +1,9 @@
 -- The end comes first, then the checks of the block, then those of what it follows; without a fault, the block and the next bookmark.
-use mathlib.Core.Path.{_≡_, sym, ap, ap₂, _∙_}
+use mathlib.Core.Path.{_≡_, refl, sym, ap, ap₂, _∙_}
 use mathlib.Core.Option.{Option}
 use mathlib.Core.List.{List}
 use Prim.Native.Nat.{ℕ}
+use native.Mathlib.Omega.{arith}
 use Rattle.block.specs.inner.Decoded.{blockAt, decodedAt, timeOfBlock}
 use Rattle.block.specs.declared.Block.{Block}
 use Rattle.block.specs.declared.Decoded.{Decoded}
@@ -12,6 +13,8 @@ use Rattle.volume.specs.declared.LastTime.{LastTime}
 use Rattle.volume.specs.declared.Found.{Found}
 use Rattle.volume.specs.declared.ReadAnswer.the-variants.{Found as Answer}
 use Rattle.checks.specs.Checks.{firstFault}
+use Rattle.checks.proofs.Laws.{not-given}
+use Rattle.refusal.proofs.Laws.{with-other}
 use Rattle.volume.proofs.Passed.{read-passed}
 use Rattle.volume.proofs.Whole.{block-decides, bookmark-decides}
 use Rattle.block.proofs.Passed.{block-passed}
@@ -29,17 +32,17 @@ returns c = end-read _ _ (sym (c .before .is-end .ensures) ∙ c .if1 .taken)
 block-fault-requires : tie.Need-block-fault-requires
 block-fault-requires c κs = search needs
 
-refuse-requires : tie.Need-refuse-requires
-refuse-requires c κs = search needs
+refusal-at-requires : tie.Need-refusal-at-requires
+refusal-at-requires c κs = search needs
 
 returns-2 : tie.Need-returns-2
 returns-2 c =
     let b = c .before .before in
     let i = b .before in
     let a = i .before .before .before .args in
-    rw (c .refuse .ensures)
-    (refusal-read (a .volume .now) (a .self) _ (sym (i .before .is-end .ensures) ∙ i .if1 .left)
-    (sym (block-decides (a .volume .now) (a .self) _ (b .block-fault .ensures) (c .before .if2 .taken))) (c .before .if2 .taken))
+    refusal-read (a .volume .now) (a .self) _ (sym (i .before .is-end .ensures) ∙ i .if1 .left)
+    (sym (block-decides (a .volume .now) (a .self) _ (b .block-fault .ensures) (c .before .if2 .taken))) (c .before .if2 .taken)
+    (c .refusal-at .ensures)
 
 decode-requires : tie.Need-decode-requires
 decode-requires c κs =
@@ -52,8 +55,8 @@ time-of-requires c κs = search needs
 follow-fault-requires : tie.Need-follow-fault-requires
 follow-fault-requires c κs = search needs
 
-refuse-requires-2 : tie.Need-refuse-requires-2
-refuse-requires-2 c κs = search needs
+refuse-requires : tie.Need-refuse-requires
+refuse-requires c κs = search needs
 
 -- what the time of the block that was decoded is
 time-at : (volume : List ℕ) (offset : ℕ) (decoded : Decoded) (time : LastTime) → decoded ≡ decodedAt volume offset
@@ -86,9 +89,9 @@ returns-3 c =
     let m = c .before .before in
     let i = m .before .before .before .before .before in
     let a = i .before .before .before .args in
-    rw (c .refuse2 .ensures)
-    (refusal-read (a .volume .now) (a .self) (m .follow-fault .result) (sym (i .before .is-end .ensures) ∙ i .if1 .left) (follow-is m)
-    (c .before .if3 .taken))
+    refusal-read (a .volume .now) (a .self) (m .follow-fault .result) (sym (i .before .is-end .ensures) ∙ i .if1 .left) (follow-is m)
+    (c .before .if3 .taken)
+    (c .refuse .ensures ∙ with-other _ _ (not-given 10 _ (omega arith) refl (m .follow-fault .ensures)))
 
 mark-after-requires : tie.Need-mark-after-requires
 mark-after-requires c κs =
@@ -113,12 +116,12 @@ read-spec =
     is-end-requires
     returns
     block-fault-requires
-    refuse-requires
+    refusal-at-requires
     returns-2
     decode-requires
     time-of-requires
     follow-fault-requires
-    refuse-requires-2
+    refuse-requires
     returns-3
     mark-after-requires
     returns-4)
