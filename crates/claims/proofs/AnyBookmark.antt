@@ -53,7 +53,7 @@ places dataBlock volume offset = (refl, tt)
 places renameBlock volume offset = (refl, (refl, tt))
 places linkTable volume offset = (refl, tt)
 
-kind-shown : (kind : Kind) (volume : List ℕ) (offset : ℕ) → kindOf (shown volume (blockOf kind volume offset)) ≡ kind
+pub kind-shown : (kind : Kind) (volume : List ℕ) (offset : ℕ) → kindOf (shown volume (blockOf kind volume offset)) ≡ kind
 unfolding shown blockOf
 kind-shown inodeBlock volume offset = refl
 kind-shown linkBlock volume offset = refl

@@ -7,6 +7,7 @@ pub mod Sofar
 pub mod Appends
 pub mod AnyBookmark
 pub mod LastNumber
+pub mod BadText
 pub mod Starts
 pub mod Afresh
 pub mod Demand3
@@ -23,6 +24,7 @@ pub mod WrongReaders
 pub mod WrongWriters
 pub mod WrongTimes
 pub mod WrongNumbers
+pub mod WrongTexts
 pub mod WrongLookups
 pub mod WrongListing
 pub mod Wrong

@@ -4,6 +4,7 @@ use Rattle.claims.proofs.WrongReaders.{refuses-all, repeats-first, inve
 use Rattle.claims.proofs.WrongWriters.{stores-nothing, always-due}
 use Rattle.claims.proofs.WrongTimes.{refuses-same-time, accepts-lower-time}
 use Rattle.claims.proofs.WrongNumbers.{numbers-from-one, counts-no-table, counts-no-append}
+use Rattle.claims.proofs.WrongTexts.{start-in-block, last-text-told, text-told-beside-any-number, second-part-told}
 use Rattle.claims.proofs.WrongListing.{invents-listed-blocks}
 use Rattle.claims.proofs.WrongLookups.{holes-only, one-place-only, holes-where-refused}
 
@@ -26,4 +27,8 @@ wrong-are-shut-out =
       numbers-from-one = numbers-from-one;
       counts-no-table = counts-no-table;
       counts-no-append = counts-no-append;
+      start-in-block = start-in-block;
+      last-text-told = last-text-told;
+      text-told-beside-any-number = text-told-beside-any-number;
+      second-part-told = second-part-told;
     }

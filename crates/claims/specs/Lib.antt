@@ -2,6 +2,7 @@ pub mod Library
 pub mod Demand2
 pub mod AnyBookmark
 pub mod LastNumber
+pub mod BadText
 pub mod Fetching
 pub mod Demand3Reading
 pub mod Demand3

@@ -3,7 +3,7 @@
 -- rule for times, and the last three count blocks in another way.
 --
 -- What a wrong library answers is what ours does, but for the calls named. Proved in proofs/Wrong.antt.
-use Prim.Native.Nat.{ℕ, suc}
+use Prim.Native.Nat.{ℕ, suc, _+_, _-_}
 use mathlib.Core.Bool.{Bool, true, false, cond}
 use mathlib.Core.Option.{Option, none, some}
 use mathlib.Core.List.{List, [], _++_}
@@ -11,13 +11,17 @@ use lib.Dec.{eqb}
 use lib.ListN.{length}
 use Rattle.number.specs.Number.{put}
 use Rattle.refusal.specs.Refusal.{refusalOf}
+use Rattle.refusal.specs.inner.FirstBad.{firstBad}
+use Rattle.refusal.specs.declared.Refusal.{Refusal}
 use Rattle.format.specs.Blocks as format
 use Rattle.format.specs.Headers.{Header}
 use Rattle.format.specs.Readings.{timeOf}
+use Rattle.block.specs.Fields.{fixedLength}
 use Rattle.block.specs.Shown.{shown}
 use Rattle.block.specs.inner.Decoded.{blockAt}
 use Rattle.block.specs.declared.Block.{Block}
 use Rattle.block.specs.declared.Block.the-variants as block
+use Rattle.texts.specs.Texts.{texts}
 use Rattle.volume.specs.declared.LastTime.{LastTime}
 use Rattle.volume.specs.declared.LastTime.the-variants.{Never, At}
 use Rattle.volume.specs.declared.Bookmark.{Bookmark}
@@ -35,6 +39,7 @@ use Rattle.listing.specs.Listing.{headingLine, endLine}
 use Rattle.listing.specs.declared.ListAnswer.the-variants as list
 use Rattle.claims.specs.Library.{Library, ours}
 use Rattle.claims.specs.LastNumber.{numbered}
+use Rattle.claims.specs.BadText.{BadText}
 use Rattle.claims.specs.Demand2.{Demand2}
 use Rattle.claims.specs.Demand3.{Demand3}
 use Rattle.claims.specs.Listed.{Listed}
@@ -245,6 +250,34 @@ countsNoAppend =
     answering (ours .read) (ours .check) (ours .headerBuffer) (λ room mark request. notCounted mark (ours .append room mark request))
     (ours .appendBuffer) (ours .position) (ours .listRoom)
 
+-- Wrong about texts, in the refusals of appends.
+abbrev pub told : (Refusal → Refusal) → WriteAnswer → WriteAnswer
+told other (write.Next next) = write.Next next
+told other (write.Refused refusal) = write.Refused (other refusal)
+
+abbrev pub telling : (format.Block → Refusal → Refusal) → Library
+telling other =
+    answering (ours .read) (ours .check) (ours .headerBuffer) (λ room mark request. told (other request) (ours .append room mark request))
+    (ours .appendBuffer) (ours .position) (ours .listRoom)
+
+-- one counts the start from the beginning of the block
+abbrev pub inBlock : format.Block → Refusal → Refusal
+inBlock request refusal =
+    record { number = refusal .number; text = refusal .text; start = fixedLength (format.kindOf request) + refusal .start }
+
+-- one tells the last text of the block, whichever is bad
+abbrev pub inLastText : format.Block → Refusal → Refusal
+inLastText request refusal = record { number = refusal .number; text = length (texts request) - 1; start = refusal .start }
+
+-- one says where a text is bad beside any number
+abbrev pub besideAnyNumber : format.Block → Refusal → Refusal
+besideAnyNumber request refusal =
+    record { number = refusal .number; text = firstBad (texts request) .text; start = firstBad (texts request) .start }
+
+-- one tells the second part of a block as the bad text, an xattr's value too
+abbrev pub inSecondPart : format.Block → Refusal → Refusal
+inSecondPart request refusal = record { number = refusal .number; text = 1; start = 0 }
+
 -- No claim holds of them.
 pub record WrongAreShutOut : Type 0 where
   pub refuses-all : Demand3 refusesAll → ⊥
@@ -263,3 +296,7 @@ pub record WrongAreShutOut : Type 0 where
   pub numbers-from-one : Demand3 numbersFromOne → ⊥
   pub counts-no-table : Demand3 countsNoTable → ⊥
   pub counts-no-append : Demand3 countsNoAppend → ⊥
+  pub start-in-block : BadText (telling inBlock) → ⊥
+  pub last-text-told : BadText (telling inLastText) → ⊥
+  pub text-told-beside-any-number : BadText (telling besideAnyNumber) → ⊥
+  pub second-part-told : BadText (telling inSecondPart) → ⊥
