@@ -6,6 +6,7 @@ library.
 Run it from the top of the repository after a change to the list of samples; the files it writes are kept in the repository.
 """
 import pathlib
+import re
 import struct
 import typing
 import zlib
@@ -62,12 +63,44 @@ def extent(volume=0, start=0, size=0, multiplicity=67, count=1, pre=0, post=0, l
 
 # ---- an independent reader
 
-def is_text(raw):
-    try:
-        raw.decode("utf-8")
-        return True
-    except UnicodeDecodeError:
-        return False
+# The characters of RFC 3629, a line for each line of its grammar. The first byte of a character settles which line it is of, so
+# the longest match of many characters is the longest well-formed beginning, whatever a decoder would make of what follows.
+CHARACTERS = re.compile(
+    rb"(?:[\x00-\x7F]"
+    rb"|[\xC2-\xDF][\x80-\xBF]"
+    rb"|\xE0[\xA0-\xBF][\x80-\xBF]|[\xE1-\xEC][\x80-\xBF]{2}|\xED[\x80-\x9F][\x80-\xBF]|[\xEE-\xEF][\x80-\xBF]{2}"
+    rb"|\xF0[\x90-\xBF][\x80-\xBF]{2}|[\xF1-\xF3][\x80-\xBF]{3}|\xF4[\x80-\x8F][\x80-\xBF]{2})*")
+
+
+def well_formed_len(raw):
+    return CHARACTERS.match(raw).end()
+
+
+def first_bad(texts):
+    """Which of the texts is the first that is not UTF-8 and where in it the fault begins, or None."""
+    for i, text in enumerate(texts):
+        start = well_formed_len(text)
+        if start < len(text):
+            return i, start
+    return None
+
+
+class Refusal(typing.NamedTuple):
+    """A number, 0 where nothing is refused. The other two are for a text that is not UTF-8, and 0 at every other number."""
+    number: int
+    text: int = 0
+    start: int = 0
+
+    def __bool__(self):
+        return self.number != 0
+
+    def __str__(self):
+        """As the programs print it: with all three where they say something, or where they should not."""
+        more = f" text {self.text} start {self.start}" if self.number == 10 or self.text or self.start else ""
+        return f"refused {self.number}{more}"
+
+
+ACCEPTED = Refusal(0)
 
 
 def header_fault(v):
@@ -110,24 +143,24 @@ FIXED = {1: 71, 2: 27, 3: 27, 4: 20, 5: 18, 6: 17, 7: 13, 8: 9}
 
 
 def read_block(v, offset, due, last):
-    """(refusal, None, None) or (0, end offset, time); 'end' is (0, None, None)."""
+    """(refusal, None, None), or no refusal with the end offset and the time; 'end' has neither of them."""
     if len(v) > LIMIT:
-        return 1, None, None
+        return Refusal(1), None, None
     if offset < 80:
-        return 8, None, None
+        return Refusal(8), None, None
     if offset == len(v) and not due:
-        return 0, None, None
+        return ACCEPTED, None, None
     if offset >= len(v):
-        return 2, None, None
+        return Refusal(2), None, None
     b = v[offset:]
     kind = b[0]
     if kind not in FIXED:
-        return 7, None, None
+        return Refusal(7), None, None
     if due != (kind == 8):
-        return 8, None, None
+        return Refusal(8), None, None
     fixed = FIXED[kind]
     if len(b) < fixed:
-        return 2, None, None
+        return Refusal(2), None, None
 
     def number(at, width):
         return int.from_bytes(b[at:at + width], "little")
@@ -137,7 +170,7 @@ def read_block(v, offset, due, last):
     if kind == 1:
         lengths = [number(63, 8)]
         if number(17, 2) // 4096 == 8 and lengths[0] > 58368:
-            return 9, None, None
+            return Refusal(9), None, None
     elif kind in (2, 3):
         lengths = [number(25, 2)]
     elif kind == 4:
@@ -150,20 +183,20 @@ def read_block(v, offset, due, last):
         lengths = [number(9, 2), number(11, 2)]
     else:
         if number(1, 8) > 4096:
-            return 9, None, None
+            return Refusal(9), None, None
         at = 9
         for _ in range(number(1, 8)):
             if len(b) < at + 18 or len(b) < at + 18 + number(at + 16, 2):
-                return 2, None, None
+                return Refusal(2), None, None
             m = number(at + 16, 2)
             links.append((number(at + 8, 8), b[at + 18:at + 18 + m]))
             at += 18 + m
         lengths = [at - 9]
     end = fixed + sum(lengths)
     if len(b) < end + 4:
-        return 2, None, None
+        return Refusal(2), None, None
     if zlib.crc32(b[:end]) != number(end, 4):
-        return 5, None, None
+        return Refusal(5), None, None
     parts, at = [], fixed
     for n in lengths:
         parts.append(b[at:at + n])
@@ -177,8 +210,9 @@ def read_block(v, offset, due, last):
         texts = parts[:1]
     elif kind == 8:
         texts = [name for _, name in links]
-    if not all(is_text(t) for t in texts):
-        return 10, None, None
+    bad = first_bad(texts)
+    if bad:
+        return Refusal(10, *bad), None, None
     if kind == 1:
         size, n = number(55, 8), lengths[0]
         if file_type == 8:
@@ -188,13 +222,13 @@ def read_block(v, offset, due, last):
         else:
             fault = 0 if n == 0 and size == 70 else 11
         if fault:
-            return fault, None, None
+            return Refusal(fault), None, None
     if len(set(links)) != len(links):
-        return 13, None, None
+        return Refusal(13), None, None
     # an equal time may follow; only a lower one is refused
     if time is not None and last is not None and time < last:
-        return 14, None, None
-    return 0, offset + end + 4, time
+        return Refusal(14), None, None
+    return ACCEPTED, offset + end + 4, time
 
 
 class Mark(typing.NamedTuple):
@@ -220,40 +254,40 @@ def next_mark(mark, end, time):
 
 
 def read(v, mark):
-    """The refusal or 0, and the bookmark after the block; None at a refusal and at the end. The number is looked at last."""
-    fault, end, time = read_block(v, mark.offset, mark.due, mark.last)
+    """The refusal, and the bookmark after the block; None at a refusal and at the end. The number is looked at last."""
+    refusal, end, time = read_block(v, mark.offset, mark.due, mark.last)
     if end is None:
-        return fault, None
+        return refusal, None
     if mark.number == TOP:
-        return 9, None
-    return 0, next_mark(mark, end, time)
+        return Refusal(9), None
+    return ACCEPTED, next_mark(mark, end, time)
 
 
 def walk(v, mark):
     """Each bookmark from this one on, with what reading there gives, until the end or a refusal."""
     while mark:
-        fault, after = read(v, mark)
-        yield mark, fault, after
+        refusal, after = read(v, mark)
+        yield mark, refusal, after
         mark = after
 
 
 def check(v):
     fault = header_fault(v)
     if fault:
-        return f"refused {fault} at 0 after 0 blocks"
-    for mark, fault, after in walk(v, first_mark(v)):
-        if fault:
-            return f"refused {fault} at {mark.offset} after {mark.number} blocks"
+        return f"{Refusal(fault)} at 0 after 0 blocks"
+    for mark, refusal, after in walk(v, first_mark(v)):
+        if refusal:
+            return f"{refusal} at {mark.offset} after {mark.number} blocks"
         if after is None:
             return f"accepted, volume {int.from_bytes(v[36:44], 'little')}, end {mark}"
 
 
 def listed(v):
-    """The lines of the listing of a volume whose header is sound."""
+    """The lines of the listing of a volume whose header is sound. Its last line has the number of a refusal alone."""
     yield "offset id length"
-    for mark, fault, after in walk(v, first_mark(v)):
-        if fault:
-            yield f"refused {fault} at {mark.offset}"
+    for mark, refusal, after in walk(v, first_mark(v)):
+        if refusal:
+            yield f"refused {refusal.number} at {mark.offset}"
         elif after is None:
             yield f"end {mark.offset} blocks {mark.number}"
         else:
@@ -266,23 +300,23 @@ TOO_LONG = b""  # stands for a block with a length that its field can't hold, of
 
 
 def append(buf, mark, image):
-    """The refusal or 0, and the next bookmark: after a refusal, the same again. The image is written if nothing refuses it."""
+    """The refusal, and the next bookmark: after a refusal, the same again. The image is written if nothing refuses it."""
     if mark.offset < 80 or mark.due != (image[:1] == b"\x08"):
-        return 8, mark
+        return Refusal(8), mark
     if mark.number == TOP or image == TOO_LONG:
-        return 9, mark
+        return Refusal(9), mark
     # The reader judges the image by itself. A call has no cut block and no wrong checksum: where the reader finds one, a table
     # has more or fewer bytes than its links.
-    fault, _, time = read_block(bytes(80) + image, 80, mark.due, mark.last)
-    if fault:
-        return 11 if fault in (2, 5) else fault, mark
+    refusal, _, time = read_block(bytes(80) + image, 80, mark.due, mark.last)
+    if refusal:
+        return Refusal(11) if refusal.number in (2, 5) else refusal, mark
     end = mark.offset + len(image)
     if end > LIMIT:
-        return 1, mark
+        return Refusal(1), mark
     if end > len(buf):
-        return 17, mark
+        return Refusal(17), mark
     buf[mark.offset:end] = image
-    return 0, next_mark(mark, end, time)
+    return ACCEPTED, next_mark(mark, end, time)
 
 
 # ---- an independent lookup, position by position
@@ -298,23 +332,23 @@ def kept(e):
     return s * c - pre - post
 
 
-def lookup_fault(v, offset, lengths):
+def lookup_refusal(v, offset, lengths):
     if len(lengths) % 8 or len(lengths) > 8 * 4096:
-        return 9
-    fault, end, _ = read_block(v, offset, False, None)
-    if fault or end is None:
-        return fault or 2
+        return Refusal(9)
+    refusal, end, _ = read_block(v, offset, False, None)
+    if refusal or end is None:
+        return refusal or Refusal(2)
     if v[offset] != 1 or int.from_bytes(v[offset + 17:offset + 19], "little") // 4096 != 8:
-        return 15
+        return Refusal(15)
     for e in extents(v, offset):
         volume, p, s, m, c, pre, post, q = e
         if kept(e) == 0:
             continue
         if volume >= len(lengths) // 8:
-            return 16
+            return Refusal(16)
         if p + (s if m == 82 else s * c) > int.from_bytes(lengths[8 * volume:8 * volume + 8], "little"):
-            return 16
-    return 0
+            return Refusal(16)
+    return ACCEPTED
 
 
 def stored(v, offset, position):
@@ -332,9 +366,9 @@ def size_of(v, offset):
 
 
 def position(v, offset, lengths, at):
-    fault = lookup_fault(v, offset, lengths)
-    if fault:
-        return f"refused {fault}"
+    refusal = lookup_refusal(v, offset, lengths)
+    if refusal:
+        return str(refusal)
     if at >= size_of(v, offset):
         return "past end"
     place = stored(v, offset, at)
@@ -343,9 +377,9 @@ def position(v, offset, lengths, at):
 
 def runs(v, offset, lengths, a, b, room):
     """The answer, and what a list of nines then holds."""
-    fault = lookup_fault(v, offset, lengths)
-    if fault:
-        return f"refused {fault}", [9] * room
+    refusal = lookup_refusal(v, offset, lengths)
+    if refusal:
+        return str(refusal), [9] * room
     found, label = [], None
     for at in range(a, min(b, size_of(v, offset))):
         place = stored(v, offset, at)
@@ -355,7 +389,7 @@ def runs(v, offset, lengths, a, b, room):
             found.append([at, 1, 0, 0, 0] if place is None else [at, 1, 1, *place[2:]])
             label = place and place[:2]
         if 5 * len(found) > room:
-            return "refused 17", [9] * room
+            return str(Refusal(17)), [9] * room
     numbers = [n for run in found for n in run]
     return f"{len(found)} runs", numbers + [9] * (room - len(numbers))
 
@@ -374,6 +408,10 @@ def fetch(first, second, number, offset, n):
 
 def damaged(v, at, value):
     return v[:at] + bytes([value]) + v[at + 1:]
+
+
+def wrong_sum(v):
+    return damaged(v, len(v) - 1, v[-1] ^ 1)
 
 
 REGULAR, LINK, FOLDER = 0o100644, 0o120777, 0o040755
@@ -397,6 +435,31 @@ LATER = header(1, bytes([9] * 32)) + table([]) + data(1, b"2,5")
 def many_extents(n):
     return header() + inode(1, REGULAR, b"".join(extent(0, 0, 1, 67, 1, 0, 0, (i * 617) % n) for i in range(n)), n)
 
+
+# a path of 40,010 bytes
+LONG = b"a" * 39_999 + b"\xFF" + b"a" * 10
+
+# texts that are not UTF-8: the first of a block and where its fault begins, bytes that are no text, and what comes before and after
+BAD_TEXTS = [
+    ("link_bad", header() + link(1, b"a\xFFb")),
+    ("unlink_bad", header() + link(1, b"\xE2\x28", 3)),
+    ("xattr_bad", header() + xattr(1, b"un\xE2\x28", b"\xFF")),
+    ("xattr_value_not_text", header() + xattr(1, b"unit", b"\xFF")),
+    ("removed_xattr_bad", header() + removed(1, b"\xF0\x9F\x92")),
+    ("target_bad", header() + inode(1, LINK, b"ab\xED\xA0\x80", 75)),
+    ("new_path_bad", header() + rename(1, b"gauge", b"x\xC0\x80")),
+    ("both_paths_bad", header() + rename(1, b"ab\x80", b"\xFF")),
+    ("long_old_path_bad", header() + rename(1, LONG, b"gauge")),
+    ("long_new_path_bad", header() + rename(1, b"gauge", LONG)),
+    ("two_names_bad", header(1) + table([(8, 1, b"ok"), (9, 1, b"\xC3\xA9\x80"), (10, 1, b"\xFF")])),
+    # before 13, 11 and 14
+    ("link_twice_bad", header(1) + table([(8, 1, b"\xFF"), (9, 1, b"\xFF")])),
+    ("target_bad_of_another_size", header() + inode(1, LINK, b"ab\xED\xA0\x80", 76)),
+    ("link_bad_at_lower_time", header() + data(9, b"") + link(1, b"ab\xFF")),
+    # other refusals, of bytes that are no text, and before 10
+    ("folder_with_byte_ff", header() + inode(1, FOLDER, b"\xFF")),
+    ("link_bad_with_wrong_sum", wrong_sum(header() + link(1, b"a\xFFb"))),
+]
 
 SAMPLES = [
     # sound volumes
@@ -427,7 +490,7 @@ SAMPLES = [
     ("other_version", header(version=1)),
     ("other_checksum_kind", header(crc=1)),
     ("other_hash_kind", header(hash_=1)),
-    ("wrong_header_sum", damaged(header(), 79, header()[79] ^ 1)),
+    ("wrong_header_sum", wrong_sum(header())),
     ("wrong_block_sum", damaged(V, 98, ord("."))),
     ("hash_in_volume_0", header(0, bytes(31) + b"\x01")),
     ("id_0", header() + bytes(21)),
@@ -456,11 +519,12 @@ SAMPLES = [
     ("lower_time", header() + data(7, b"1,5") + data(6, b"1,5")),
     ("time_0_after_latest", header() + data(TOP, b"1,5") + data(0, b"1,5")),
     ("earlier_time", header(1) + table([]) + data(7, b"1,5") + inode(6, FOLDER)),
+    *BAD_TEXTS,
 ]
 VOLUMES = dict(SAMPLES)
 
 
-LISTED = ["same_time", "lower_time"]
+LISTED = ["same_time", "lower_time", "new_path_bad"]
 # where readings begin: at a header's bookmark, and at some that are made up
 READ_FROM = [
     ("all_kinds", [first_mark(EIGHT)]),
@@ -470,6 +534,9 @@ READ_FROM = [
     ("v", [Mark(80, False, None, TOP), Mark(104, False, 7, TOP), Mark(80, False, None, TOP - 1), Mark(80, False, 8, TOP),
            Mark(80, True, None, TOP), Mark(79, False, None, TOP), Mark(105, False, None, TOP)]),
     ("wrong_block_sum", [Mark(80, False, 8, TOP)]),
+    # a link at time 1: the place comes before its name, the time and the number of blocks after it
+    ("link_bad", [Mark(80, False, None, 0), Mark(80, True, None, 0), Mark(79, False, None, 0), Mark(80, False, 2, TOP)]),
+    *((name, [first_mark(volume)]) for name, volume in BAD_TEXTS[1:]),
 ]
 KINDS = {1: "inode", 2: "link", 3: "unlink", 4: "xattr", 5: "removed xattr", 6: "data", 7: "rename"}
 
@@ -487,9 +554,9 @@ def volume_rows():
 
 
 def read_rows(v, first):
-    for mark, fault, after in walk(v, first):
-        if fault:
-            yield f"read at {mark}: refused {fault}"
+    for mark, refusal, after in walk(v, first):
+        if refusal:
+            yield f"read at {mark}: {refusal}"
         elif after is None:
             yield f"read at {mark}: end"
         else:
@@ -515,15 +582,31 @@ FETCHES = [(GAUGE, LATER, 0, 97, 3), (GAUGE, LATER, 1, 110, 3), (LATER, GAUGE, 0
            (GAUGE, V, 0, 1000, 0), (V, GAUGE, 0, 1000, 0), (GAUGE, damaged(header(), 16, 1), 0, 97, 3),
            (b"", damaged(header(), 16, 1), 0, 97, 3)]
 
+# at 80, both lookups: a text comes after the lengths and the block's checksum and before what kind of block it is
+BAD_LOOKUPS = [("link_bad", ONE), ("link_bad", bytes(9)), ("target_bad", ONE), ("new_path_bad", ONE), ("xattr_value_not_text", ONE),
+               ("folder_with_byte_ff", ONE), ("link_bad_with_wrong_sum", ONE), ("two_names_bad", ONE)]
+
+
+def position_row(v, offset, lengths, at):
+    return f"inode at {offset}, position {at}: {position(v, offset, lengths, at)}"
+
+
+def runs_row(v, offset, lengths, a, b, room):
+    answer, numbers = runs(v, offset, lengths, a, b, room)
+    return f"inode at {offset}, {a} to {b}, room {room}: {answer}" + "".join(f" {n}" for n in numbers)
+
 
 def lookup_rows():
-    for offset, lengths, at in POSITIONS:
-        yield f"inode at {offset}, position {at}: {position(GAUGE, offset, lengths, at)}"
-    for offset, lengths, a, b, room in RANGES:
-        answer, numbers = runs(GAUGE, offset, lengths, a, b, room)
-        yield f"inode at {offset}, {a} to {b}, room {room}: {answer}" + "".join(f" {n}" for n in numbers)
+    for asked in POSITIONS:
+        yield position_row(GAUGE, *asked)
+    for asked in RANGES:
+        yield runs_row(GAUGE, *asked)
     for first, second, number, offset, n in FETCHES:
         yield f"fetch {n} at {offset} of volume {number}: {fetch(first, second, number, offset, n)}"
+    for name, lengths in BAD_LOOKUPS:
+        yield f"{name}.vol, {len(lengths)} bytes of lengths:"
+        yield position_row(VOLUMES[name], 80, lengths, 0)
+        yield runs_row(VOLUMES[name], 80, lengths, 0, 3, 3)
 
 
 # ---- the volumes that the program writes: each call with the image that it asks for, and its own bookmark where it has one
@@ -535,19 +618,18 @@ OVERLAPPING = extent(0, 97, 3) + extent(0, 97, 3, 82, 3, 1, 1, 2)
 NO_HEADERS = [("header, ID of 15 bytes", 11), ("header, hash of 33 bytes", 11), ("header of volume 0 with a hash", 6), ("header in 79 bytes", 17)]
 WRITTEN = [("data where a table is due", data(1, b"1,5")), ("table of 4,097 links", table(LINKS, 4097)),
            ("table with one link more", table(LINKS, 1)), ("table with one link less", table(LINKS, 3)),
-           ("table, name not text", table([(8, 1, b"\xFF")])), ("table, link twice", table([(8, 1, b"a"), (9, 1, b"a")])),
+           ("table, link twice", table([(8, 1, b"a"), (9, 1, b"a")])),
            ("table", table(LINKS)), ("second table", table(LINKS)),
            ("inode of 1,025 extents", inode(1, REGULAR, bytes(57 * 1025), 14)), ("inode, 56 bytes", inode(1, REGULAR, bytes(56), 14)),
            ("inode, multiplicity 0", inode(1, REGULAR, bytes(57), 14)), ("inode, ranges overlap", inode(1, REGULAR, OVERLAPPING, 14)),
            ("inode", inode(1, REGULAR, EXTENTS, 14)),
-           ("target not text", inode(2, LINK, b"\x80", 71)), ("target of another size", inode(2, LINK, b"gauge", 76)),
+           ("target of another size", inode(2, LINK, b"gauge", 76)),
            ("symbolic link", inode(2, LINK, b"gauge", 75)),
-           ("folder with a byte", inode(3, FOLDER, b"x")), ("folder at a lower time", inode(1, FOLDER)), ("folder", inode(3, FOLDER)),
+           ("folder with a byte", inode(3, FOLDER, b"\xFF")), ("folder at a lower time", inode(1, FOLDER)), ("folder", inode(3, FOLDER)),
            ("link, name of 65,536 bytes", TOO_LONG), ("link", link(4, b"gauge")),
-           ("unlink, name not text", link(5, b"\xC3", 3)), ("unlink", link(5, b"log", 3)),
+           ("unlink", link(5, b"log", 3)),
            ("xattr, name of 256 bytes", TOO_LONG), ("xattr", xattr(6, b"unit", b"m\xFF")), ("removed xattr", removed(7, b"unit")),
-           ("data", data(8, b"1,5")), ("rename, new path not text", rename(9, b"gauge", b"p\xE9gel")),
-           ("rename", rename(9, b"gauge", b"p\xC3\xA9gel")), ("data without room", data(10, b"")),
+           ("data", data(8, b"1,5")), ("rename", rename(9, b"gauge", b"p\xC3\xA9gel")), ("data without room", data(10, b"")),
            ("data", data(1, b"1,5"), Mark(79, False, None, 0)), ("table", table([]), Mark(LIMIT - 20, False, None, 0)),
            ("data over the limit at a lower time", data(TOP - 1, b"1,5"), Mark(LIMIT - 20, False, TOP, 0)),
            ("data over the limit at the same time", data(TOP, b"1,5"), Mark(LIMIT - 20, False, TOP, 0)),
@@ -566,13 +648,38 @@ UNCOUNTED = [("data", data(7, b"2,5"), Mark(104, False, 7, TOP)), ("data", data(
              ("link, name not text", link(7, b"\xFF"), Mark(104, False, 7, TOP)),
              ("table with one link more", table([(8, 1, b"a")], 0), Mark(104, True, 7, TOP))]
 
+# texts that are not UTF-8, each with the bookmark where it is appended in a block of every kind, into a buffer with room for it
+ROOM = 65_700
+FIRST = Mark(80, False, None, 0)
+DUE = Mark(80, True, None, 0)
+REFUSED = [(b"a\xFFb", FIRST), (b"x\xC0\x80", FIRST), (b"ab\x80", FIRST), (b"\xF0\x9F\x92", FIRST), (b"un\xE2\x28", FIRST),
+           (b"ab\xED\xA0\x80", FIRST), (LONG, FIRST), (b"\xFF" * 65_536, FIRST), (b"a\xFFb", DUE), (b"a\xFFb", Mark(80, False, None, TOP)),
+           *((b"ab\xFF", Mark(offset, False, 9, 0)) for offset in (80, ROOM - 10, LIMIT - 20))]
+BAD_LINKS = [(8, 1, b"ok"), (9, 1, b"\xC3\xA9\x80"), (10, 1, b"\xFF")]
+BAD_TABLES = [("table", table(BAD_LINKS)), ("table with one link more", table(BAD_LINKS, 2)),
+              ("table, link twice", table([(8, 1, b"\xFF"), (9, 1, b"\xFF")]))]
+
+
+def call_of(name, image, *parts):
+    """A call with the image that it asks for, of which there is none where a length doesn't fit its field."""
+    try:
+        return name, image(1, *parts)
+    except struct.error:
+        return name, TOO_LONG
+
+
+def calls_of(text):
+    return [call_of("link", link, text), call_of("unlink", link, text, 3), call_of("xattr", xattr, text, b"\xFF"),
+            call_of("removed xattr", removed, text), call_of("rename to it", rename, b"gauge", text),
+            call_of("rename of it", rename, text, b"\xFF"), call_of("symbolic link", inode, LINK, text, 75)]
+
 
 def call_rows(buf, mark, calls):
     """Calls in a row, each at the bookmark that the one before it gave, or at one of its own, which is shown."""
     for call, image, *own in calls:
-        fault, after = append(buf, own[0] if own else mark, image)
+        refusal, after = append(buf, own[0] if own else mark, image)
         at = f"at {own[0]}: " if own else ""
-        yield f"{at}write {call}: " + (f"refused {fault}" if fault else f"next {after}")
+        yield f"{at}write {call}: " + (f"{refusal}" if refusal else f"next {after}")
         mark = mark if own else after
 
 
@@ -590,7 +697,7 @@ def same_as(buf, name):
 def written_rows():
     buf = bytearray(len(EIGHT))
     for call, fault in NO_HEADERS:
-        yield f"write {call}: refused {fault}"
+        yield f"write {call}: {Refusal(fault)}"
     yield from volume_of(buf, header(1, bytes([9] * 32)), WRITTEN)
     yield from same_as(buf, "all_kinds")
     yield from listed(EIGHT)
@@ -603,6 +710,24 @@ def written_rows():
     yield from read_rows(buf, FULL)
     yield from call_rows(buf, None, UNCOUNTED)
     yield from same_as(buf, "same_time")
+    yield from text_rows(bytearray([9] * ROOM))
+
+
+def kind_rows(buf, mark, text):
+    """Every call with this text, each at this bookmark."""
+    yield f"at {mark}:"
+    for call in calls_of(text):
+        yield from call_rows(buf, mark, [call])
+
+
+def text_rows(buf):
+    for text, mark in REFUSED:
+        yield from kind_rows(buf, mark, text)
+    yield f"at {DUE}:"
+    yield from call_rows(buf, DUE, BAD_TABLES)
+    assert buf == bytes([9] * ROOM)
+    yield "written: nothing"
+    yield from kind_rows(buf, FIRST, b"unit")
 
 
 CRATES = pathlib.Path("crates")
@@ -625,7 +750,7 @@ def main():
     first = next(i for i, line in enumerate(lines) if ".vol: " in line)
     keep("samples", VOLUMES, [*lines[:first], *volume_rows()])
     (CRATES / "samples/args").write_text("".join(f"{name}.vol\n" for name in VOLUMES))
-    keep("lookup_samples", ["gauge", "later", "v", "wrong_magic"], lookup_rows())
+    keep("lookup_samples", ["gauge", "later", "v", "wrong_magic", *(name for name, _ in BAD_LOOKUPS)], lookup_rows())
     keep("writing_samples", ["all_kinds", "same_time", "v"], written_rows())
 
 

@@ -1,5 +1,6 @@
 // What becomes of a volume that is written: a line about it, and a file if one is asked for.
 use printing::print_pair;
+use printing::print_refusal;
 use printing::print_word;
 use volume::Accepted;
 use volume::Rejected;
@@ -13,7 +14,7 @@ fn print_accepted(v: Accepted) {
 }
 
 fn print_refused(v: Rejected) {
-    print_pair(b"refused ", v.refusal.number);
+    print_refusal(v.refusal);
     print_pair(b" at ", v.offset as u64);
     print_pair(b" after ", v.blocks);
     print_word(b" blocks\n");

@@ -1,5 +1,6 @@
 // What the three volumes share: going from one append to the next, headers, inodes and extents.
 use printing::print_pair;
+use printing::print_refusal;
 use printing::print_word;
 use volume::Bookmark;
 use volume::LastTime;
@@ -28,7 +29,7 @@ pub fn onward(mark: Bookmark, answer: WriteAnswer) -> Bookmark {
     match answer {
         WriteAnswer::Next(next) => next,
         WriteAnswer::Refused(refusal) => {
-            print_pair(b"refused ", refusal.number);
+            print_refusal(refusal);
             print_pair(b" in writing at ", mark.offset as u64);
             print_word(b"\n");
             mark

@@ -1,4 +1,5 @@
-// Lookups in the sample volume gauge.vol: single positions, ranges with more and with less room, and stored bytes.
+// Lookups in the sample volume gauge.vol: single positions, ranges with more and with less room, and stored bytes. Then lookups
+// at blocks with a text that is not UTF-8.
 use format::Logical;
 use format::Physical;
 use lookup::PositionAnswer;
@@ -6,6 +7,7 @@ use lookup::RunsAnswer;
 use printing::load;
 use printing::print_number;
 use printing::print_pair;
+use printing::print_refusal;
 use printing::print_word;
 
 // Where the inode blocks of gauge.vol stand: files A, A with post 2, and B of the rules, a folder, two files with an extent
@@ -34,9 +36,7 @@ fn print_place(answer: PositionAnswer) {
             print_pair(b"volume ", place.volume);
             print_pair(b" offset ", place.offset.0);
         }
-        PositionAnswer::Refused(refusal) => {
-            print_pair(b"refused ", refusal.number);
-        }
+        PositionAnswer::Refused(refusal) => print_refusal(refusal),
     }
 }
 
@@ -46,9 +46,7 @@ fn print_count(answer: RunsAnswer) {
             print_number(count);
             print_word(b" runs");
         }
-        RunsAnswer::Refused(refusal) => {
-            print_pair(b"refused ", refusal.number);
-        }
+        RunsAnswer::Refused(refusal) => print_refusal(refusal),
     }
 }
 
@@ -195,6 +193,36 @@ fn fetches_refused<'a>(gauge: &'a [u8], shorter: &'a [u8], damaged: &'a [u8]) {
     fetch_row(b"", damaged, 0, 97, 3);
 }
 
+// A position and a range of what stands first in a volume.
+fn both_lookups(name: &[u8], lengths: &[u8]) {
+    let mut buf = [0u8; 256];
+    let n = load(name, &mut buf);
+    let volume = &buf[..n];
+    print_word(name);
+    print_pair(b", ", lengths.len() as u64);
+    print_word(b" bytes of lengths:\n");
+    position_row(volume, 80, lengths, 0);
+    runs_row(volume, 80, lengths, 0, 3, &mut [9u64; 3]);
+}
+
+// Which text of the block is the first that is bad, and where. The lengths come before that and the kind of the block after it.
+fn bad_texts() {
+    let lengths = [104u8, 0, 0, 0, 0, 0, 0, 0];
+    both_lookups(b"link_bad.vol", &lengths);
+    both_lookups(b"link_bad.vol", &[0u8; 9]);
+    both_lookups(b"target_bad.vol", &lengths);
+    both_lookups(b"new_path_bad.vol", &lengths);
+}
+
+// Bytes that are no text, and refusals before that of a text: a wrong checksum, and a table, which no lookup is made at.
+fn no_bad_texts() {
+    let lengths = [104u8, 0, 0, 0, 0, 0, 0, 0];
+    both_lookups(b"xattr_value_not_text.vol", &lengths);
+    both_lookups(b"folder_with_byte_ff.vol", &lengths);
+    both_lookups(b"link_bad_with_wrong_sum.vol", &lengths);
+    both_lookups(b"two_names_bad.vol", &lengths);
+}
+
 fn main() {
     let mut first = [0u8; 2048];
     let n = load(b"gauge.vol", &mut first);
@@ -212,4 +240,6 @@ fn main() {
     ranges_at_the_edges(&first[..n]);
     fetches(&first[..n], &second[..m]);
     fetches_refused(&first[..n], &third[..k], &fourth[..l]);
+    bad_texts();
+    no_bad_texts();
 }

@@ -2,13 +2,13 @@
 use printing::bookmarks::MOST_BLOCKS;
 use printing::bookmarks::print_readings;
 use printing::load;
-use printing::print_pair;
+use printing::print_refusal;
 use printing::print_word;
 use volume::Bookmark;
 use volume::HeaderAnswer;
 use volume::LastTime;
 
-fn readings(volume: &[u8], offset: usize, due: bool, last: LastTime, number: u64) {
+pub fn readings(volume: &[u8], offset: usize, due: bool, last: LastTime, number: u64) {
     let mark = Bookmark {
         offset,
         due,
@@ -18,11 +18,11 @@ fn readings(volume: &[u8], offset: usize, due: bool, last: LastTime, number: u64
     print_readings(volume, mark);
 }
 
-fn from_header(volume: &[u8]) {
+pub fn from_header(volume: &[u8]) {
     match volume::heading::read_header(volume) {
         HeaderAnswer::Accepted(header) => print_readings(volume, header.next),
         HeaderAnswer::Refused(refusal) => {
-            print_pair(b"refused ", refusal.number);
+            print_refusal(refusal);
             print_word(b"\n");
         }
     }

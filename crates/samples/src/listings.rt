@@ -1,5 +1,5 @@
-// Listings: of a volume of one byte more than can be listed, where refusal 1 stands in the text after the heading, and of two
-// volumes of two blocks, whose second time is the same and lower.
+// Listings: of a volume of one byte more than can be listed, where refusal 1 stands in the text after the heading, of two volumes
+// of two blocks, whose second time is the same and lower, and of one whose first block has a bad text.
 use libc::STDOUT_FILENO;
 use printing::load;
 use printing::print_word;
@@ -24,4 +24,9 @@ fn row(name: &[u8], text: &mut [u8]) {
 pub fn times() {
     row(b"same_time.vol", &mut [0u8; 51]);
     row(b"lower_time.vol", &mut [0u8; 43]);
+}
+
+// The last line says no more than the number and the offset, of a text that is not UTF-8 too.
+pub fn not_text() {
+    row(b"new_path_bad.vol", &mut [0u8; 34]);
 }

@@ -1,19 +1,22 @@
 // Runs vectors from outside against the library and prints what it answers; the file stdout has what it must print.
+mod bad_texts;
 mod bookmarks;
+mod characters;
 mod listings;
 mod sums;
-mod texts;
 mod volumes;
 
 fn main() {
     sums::all();
-    texts::well_formed();
-    texts::at_the_edges();
-    texts::too_long();
-    texts::surrogates_and_above();
-    texts::cut_and_stray();
+    characters::well_formed();
+    characters::at_the_edges();
+    characters::too_long();
+    characters::surrogates_and_above();
+    characters::cut_and_stray();
     listings::too_long();
     volumes::all();
     listings::times();
+    listings::not_text();
     bookmarks::all();
+    bad_texts::all();
 }

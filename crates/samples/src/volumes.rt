@@ -2,6 +2,7 @@
 use printing::bookmarks::print_mark;
 use printing::load;
 use printing::print_pair;
+use printing::print_refusal;
 use printing::print_word;
 use volume::Accepted;
 use volume::Rejected;
@@ -15,7 +16,8 @@ fn print_accepted(v: Accepted) {
 }
 
 fn print_refused(v: Rejected) {
-    print_pair(b": refused ", v.refusal.number);
+    print_word(b": ");
+    print_refusal(v.refusal);
     print_pair(b" at ", v.offset as u64);
     print_pair(b" after ", v.blocks);
     print_word(b" blocks\n");
