@@ -3,7 +3,13 @@
  * A slice is a pointer and a length; the pointer may be null where the length is 0. Every call takes any bytes and any
  * numbers, ends, and writes nothing but the list lent to hdrfs_runs and the buffer lent to a writing call. A refusal number
  * of 0 means that nothing is refused; docs/REFUSALS.md says what the others mean. Beside a refusal every other value is 0,
- * except the offset and the number of blocks that the check of a whole volume hands out.
+ * except the offset and the number of blocks that the check of a whole volume hands out, and the two numbers of a 10.
+ *
+ * Refusal 10, a text that is not UTF-8, has `text` and `start` beside it, which are 0 beside every other number. `text` says which
+ * text of the block is the first that is not UTF-8, counted from 0 in the order of the layout; `start` says where in that text,
+ * counted from its own first byte, the first ill-formed sequence begins: all bytes before it are UTF-8. The texts of a block are a
+ * symbolic link's target; the name of a link, unlink, xattr or removed xattr; the old path (0) and the new path (1) of a rename;
+ * and the names of a link table, one for each link. An xattr's value is no text. Headers and fetching never give a 10.
  *
  * Reading and writing go from bookmark to bookmark. The `number` of a bookmark says how many blocks stand before it, and so is the
  * number of the block that is read or appended there: the first one behind a header, a link table too, is block 0. A number that
@@ -32,6 +38,8 @@ enum { HDRFS_HOLE = 0, HDRFS_STORED = 1, HDRFS_PAST_END = 2 };
 
 typedef struct {
     uint64_t refusal;  /* 0: accepted */
+    uint64_t text;     /* of a 10: which text of the block is not UTF-8, and where in it that begins */
+    uint64_t start;
     uint64_t sequence; /* the sequence number */
     uint64_t blocks;   /* blocks after the header that were accepted, the link table included: the end bookmark's number, or
                         * that of the block at fault; 0 where the header is at fault */
@@ -45,6 +53,8 @@ hdrfs_checked hdrfs_check(const uint8_t *volume, size_t volume_len);
 
 /* The same, one number a call. */
 uint64_t hdrfs_check_refusal(const uint8_t *volume, size_t volume_len);
+uint64_t hdrfs_check_text(const uint8_t *volume, size_t volume_len);
+uint64_t hdrfs_check_start(const uint8_t *volume, size_t volume_len);
 uint64_t hdrfs_check_sequence(const uint8_t *volume, size_t volume_len);
 uint64_t hdrfs_check_blocks(const uint8_t *volume, size_t volume_len);
 uint64_t hdrfs_check_offset(const uint8_t *volume, size_t volume_len);
@@ -55,6 +65,8 @@ uint64_t hdrfs_check_time(const uint8_t *volume, size_t volume_len);
 
 typedef struct {
     uint64_t refusal;
+    uint64_t text;   /* of a 10, as in hdrfs_checked */
+    uint64_t start;
     uint64_t kind;   /* HDRFS_HOLE, HDRFS_STORED or HDRFS_PAST_END */
     uint64_t volume; /* the sequence number of the volume that has the byte */
     uint64_t offset; /* where the byte stands in that volume */
@@ -65,6 +77,10 @@ hdrfs_place hdrfs_lookup(const uint8_t *volume, size_t volume_len, uint64_t offs
 
 uint64_t hdrfs_lookup_refusal(const uint8_t *volume, size_t volume_len, uint64_t offset,
                               const uint8_t *lengths, size_t lengths_len, uint64_t position);
+uint64_t hdrfs_lookup_text(const uint8_t *volume, size_t volume_len, uint64_t offset,
+                           const uint8_t *lengths, size_t lengths_len, uint64_t position);
+uint64_t hdrfs_lookup_start(const uint8_t *volume, size_t volume_len, uint64_t offset,
+                            const uint8_t *lengths, size_t lengths_len, uint64_t position);
 uint64_t hdrfs_lookup_kind(const uint8_t *volume, size_t volume_len, uint64_t offset,
                            const uint8_t *lengths, size_t lengths_len, uint64_t position);
 uint64_t hdrfs_lookup_volume(const uint8_t *volume, size_t volume_len, uint64_t offset,
@@ -77,6 +93,8 @@ uint64_t hdrfs_lookup_offset(const uint8_t *volume, size_t volume_len, uint64_t 
 
 typedef struct {
     uint64_t refusal; /* 17: `out` has room for fewer runs than there are */
+    uint64_t text;    /* of a 10, as in hdrfs_checked */
+    uint64_t start;
     uint64_t count;   /* how many runs there are */
 } hdrfs_run_count;
 
@@ -88,6 +106,8 @@ hdrfs_run_count hdrfs_runs(const uint8_t *volume, size_t volume_len, uint64_t of
 
 typedef struct {
     uint64_t refusal;
+    uint64_t text;     /* always 0, and so is start */
+    uint64_t start;
     uint64_t sequence;
     uint64_t next;     /* the bookmark after the header: its offset, and 1 where a link table is due there; its number is 0 */
     uint64_t due;
@@ -100,6 +120,8 @@ hdrfs_heading hdrfs_header(const uint8_t *volume, size_t volume_len);
 /* One block. What a kind of block does not have is 0. */
 typedef struct {
     uint64_t refusal;
+    uint64_t text;        /* of a 10, as in hdrfs_checked */
+    uint64_t start;
     uint64_t end;         /* 1: the bookmark stands at the end of the volume, and there is no block */
     uint64_t id;          /* 1 inode, 2 link, 3 unlink, 4 xattr, 5 removed xattr, 6 data, 7 rename, 8 link table */
     uint64_t number;      /* the block's own number: that of the bookmark at which it was read */
@@ -166,6 +188,8 @@ hdrfs_extent_entry hdrfs_extent(const uint8_t *list, size_t list_len, uint64_t i
 
 typedef struct {
     uint64_t refusal;
+    uint64_t text;  /* always 0, and so is start */
+    uint64_t start;
     uint64_t which; /* 0: the first volume has them, 1: the second */
 } hdrfs_source;
 
@@ -179,6 +203,8 @@ hdrfs_source hdrfs_fetch(const uint8_t *first, size_t first_len, const uint8_t *
  * block may have that time or a higher one; at a lower time it is refused with 14. */
 typedef struct {
     uint64_t refusal; /* 17: the buffer has too little room */
+    uint64_t text;    /* of a 10, as in hdrfs_checked: which text of the block that is not written */
+    uint64_t start;
     uint64_t next;
     uint64_t due;
     uint64_t timed;

@@ -1,14 +1,11 @@
 /* Calls every function of hdrfs.h on two sound volumes, on no bytes at all, and on numbers from the edges, and prints the
  * numbers that come back, a line for each call, in the order of the struct; and writes the second volume anew, and others whose
- * blocks have equal and lower times, or cannot be counted. calls.expected has what it must print.
+ * blocks have equal and lower times, or cannot be counted. Texts that are not UTF-8 are tried in texts.c. calls.expected has what
+ * both must print.
  *
  * The two volumes are the samples v.vol and all_kinds.vol.
  */
-#include "hdrfs.h"
-
-#include <inttypes.h>
-#include <stdio.h>
-#include <string.h>
+#include "calls.h"
 
 /* ---- The layout of the structs: as many numbers of 8 bytes as there are fields, one after the other. */
 
@@ -18,58 +15,68 @@
 #define HAS_FIELDS(type, count) _Static_assert(sizeof(type) == 8 * (count), #type " has another size")
 
 IS_NUMBER(hdrfs_checked, refusal, 0);
-IS_NUMBER(hdrfs_checked, sequence, 1);
-IS_NUMBER(hdrfs_checked, blocks, 2);
-IS_NUMBER(hdrfs_checked, offset, 3);
-IS_NUMBER(hdrfs_checked, timed, 4);
-IS_NUMBER(hdrfs_checked, time, 5);
-HAS_FIELDS(hdrfs_checked, 6);
+IS_NUMBER(hdrfs_checked, text, 1);
+IS_NUMBER(hdrfs_checked, start, 2);
+IS_NUMBER(hdrfs_checked, sequence, 3);
+IS_NUMBER(hdrfs_checked, blocks, 4);
+IS_NUMBER(hdrfs_checked, offset, 5);
+IS_NUMBER(hdrfs_checked, timed, 6);
+IS_NUMBER(hdrfs_checked, time, 7);
+HAS_FIELDS(hdrfs_checked, 8);
 
 IS_NUMBER(hdrfs_place, refusal, 0);
-IS_NUMBER(hdrfs_place, kind, 1);
-IS_NUMBER(hdrfs_place, volume, 2);
-IS_NUMBER(hdrfs_place, offset, 3);
-HAS_FIELDS(hdrfs_place, 4);
+IS_NUMBER(hdrfs_place, text, 1);
+IS_NUMBER(hdrfs_place, start, 2);
+IS_NUMBER(hdrfs_place, kind, 3);
+IS_NUMBER(hdrfs_place, volume, 4);
+IS_NUMBER(hdrfs_place, offset, 5);
+HAS_FIELDS(hdrfs_place, 6);
 
 IS_NUMBER(hdrfs_run_count, refusal, 0);
-IS_NUMBER(hdrfs_run_count, count, 1);
-HAS_FIELDS(hdrfs_run_count, 2);
+IS_NUMBER(hdrfs_run_count, text, 1);
+IS_NUMBER(hdrfs_run_count, start, 2);
+IS_NUMBER(hdrfs_run_count, count, 3);
+HAS_FIELDS(hdrfs_run_count, 4);
 
 IS_NUMBER(hdrfs_heading, refusal, 0);
-IS_NUMBER(hdrfs_heading, sequence, 1);
-IS_NUMBER(hdrfs_heading, next, 2);
-IS_NUMBER(hdrfs_heading, due, 3);
-IS_NUMBER(hdrfs_heading, id, 4);
-IS_NUMBER(hdrfs_heading, previous, 5);
-HAS_FIELDS(hdrfs_heading, 6);
+IS_NUMBER(hdrfs_heading, text, 1);
+IS_NUMBER(hdrfs_heading, start, 2);
+IS_NUMBER(hdrfs_heading, sequence, 3);
+IS_NUMBER(hdrfs_heading, next, 4);
+IS_NUMBER(hdrfs_heading, due, 5);
+IS_NUMBER(hdrfs_heading, id, 6);
+IS_NUMBER(hdrfs_heading, previous, 7);
+HAS_FIELDS(hdrfs_heading, 8);
 
 IS_NUMBER(hdrfs_block, refusal, 0);
-IS_NUMBER(hdrfs_block, end, 1);
-IS_NUMBER(hdrfs_block, id, 2);
-IS_NUMBER(hdrfs_block, number, 3);
-IS_NUMBER(hdrfs_block, next, 4);
-IS_NUMBER(hdrfs_block, due, 5);
-IS_NUMBER(hdrfs_block, timed, 6);
-IS_NUMBER(hdrfs_block, last, 7);
-IS_NUMBER(hdrfs_block, next_number, 8);
-IS_NUMBER(hdrfs_block, time, 9);
-IS_NUMBER(hdrfs_block, inode, 10);
-IS_NUMBER(hdrfs_block, child, 11);
-IS_NUMBER(hdrfs_block, parent, 12);
-IS_NUMBER(hdrfs_block, mode, 13);
-IS_NUMBER(hdrfs_block, uid, 14);
-IS_NUMBER(hdrfs_block, gid, 15);
-IS_NUMBER(hdrfs_block, atime, 16);
-IS_NUMBER(hdrfs_block, mtime, 17);
-IS_NUMBER(hdrfs_block, ctime, 18);
-IS_NUMBER(hdrfs_block, btime, 19);
-IS_NUMBER(hdrfs_block, size, 20);
-IS_NUMBER(hdrfs_block, count, 21);
-IS_NUMBER(hdrfs_block, part, 22);
-IS_NUMBER(hdrfs_block, part_len, 23);
-IS_NUMBER(hdrfs_block, second, 24);
-IS_NUMBER(hdrfs_block, second_len, 25);
-HAS_FIELDS(hdrfs_block, 26);
+IS_NUMBER(hdrfs_block, text, 1);
+IS_NUMBER(hdrfs_block, start, 2);
+IS_NUMBER(hdrfs_block, end, 3);
+IS_NUMBER(hdrfs_block, id, 4);
+IS_NUMBER(hdrfs_block, number, 5);
+IS_NUMBER(hdrfs_block, next, 6);
+IS_NUMBER(hdrfs_block, due, 7);
+IS_NUMBER(hdrfs_block, timed, 8);
+IS_NUMBER(hdrfs_block, last, 9);
+IS_NUMBER(hdrfs_block, next_number, 10);
+IS_NUMBER(hdrfs_block, time, 11);
+IS_NUMBER(hdrfs_block, inode, 12);
+IS_NUMBER(hdrfs_block, child, 13);
+IS_NUMBER(hdrfs_block, parent, 14);
+IS_NUMBER(hdrfs_block, mode, 15);
+IS_NUMBER(hdrfs_block, uid, 16);
+IS_NUMBER(hdrfs_block, gid, 17);
+IS_NUMBER(hdrfs_block, atime, 18);
+IS_NUMBER(hdrfs_block, mtime, 19);
+IS_NUMBER(hdrfs_block, ctime, 20);
+IS_NUMBER(hdrfs_block, btime, 21);
+IS_NUMBER(hdrfs_block, size, 22);
+IS_NUMBER(hdrfs_block, count, 23);
+IS_NUMBER(hdrfs_block, part, 24);
+IS_NUMBER(hdrfs_block, part_len, 25);
+IS_NUMBER(hdrfs_block, second, 26);
+IS_NUMBER(hdrfs_block, second_len, 27);
+HAS_FIELDS(hdrfs_block, 28);
 
 IS_NUMBER(hdrfs_link_entry, missing, 0);
 IS_NUMBER(hdrfs_link_entry, child, 1);
@@ -90,16 +97,20 @@ IS_NUMBER(hdrfs_extent_entry, logical, 7);
 HAS_FIELDS(hdrfs_extent_entry, 8);
 
 IS_NUMBER(hdrfs_source, refusal, 0);
-IS_NUMBER(hdrfs_source, which, 1);
-HAS_FIELDS(hdrfs_source, 2);
+IS_NUMBER(hdrfs_source, text, 1);
+IS_NUMBER(hdrfs_source, start, 2);
+IS_NUMBER(hdrfs_source, which, 3);
+HAS_FIELDS(hdrfs_source, 4);
 
 IS_NUMBER(hdrfs_written, refusal, 0);
-IS_NUMBER(hdrfs_written, next, 1);
-IS_NUMBER(hdrfs_written, due, 2);
-IS_NUMBER(hdrfs_written, timed, 3);
-IS_NUMBER(hdrfs_written, last, 4);
-IS_NUMBER(hdrfs_written, number, 5);
-HAS_FIELDS(hdrfs_written, 6);
+IS_NUMBER(hdrfs_written, text, 1);
+IS_NUMBER(hdrfs_written, start, 2);
+IS_NUMBER(hdrfs_written, next, 3);
+IS_NUMBER(hdrfs_written, due, 4);
+IS_NUMBER(hdrfs_written, timed, 5);
+IS_NUMBER(hdrfs_written, last, 6);
+IS_NUMBER(hdrfs_written, number, 7);
+HAS_FIELDS(hdrfs_written, 8);
 
 /* A slice is a pointer and a length that fit the registers of a call. */
 _Static_assert(sizeof(size_t) == 8 && sizeof(void *) == 8, "a length or an address has not 8 bytes");
@@ -107,7 +118,7 @@ _Static_assert(sizeof(size_t) == 8 && sizeof(void *) == 8, "a length or an addre
 /* ---- The volumes, and their lengths as lookups take them. */
 
 /* Volume 0: one data block, whose payload stands at 97. */
-static const uint8_t V[104] = {
+const uint8_t V[104] = {
     0xd3, 0x48, 0x44, 0x52, 0x46, 0x53, 0x0d, 0x0a, 0x1a, 0x0a, 0x00, 0x48, 0x44, 0x52, 0x46, 0x53,
     0x00, 0x00, 0x00, 0x01, 0x02, 0x03, 0x04, 0x05, 0x06, 0x07, 0x08, 0x09, 0x0a, 0x0b, 0x0c, 0x0d,
     0x0e, 0x0f, 0x00, 0x00, 0x00, 0x00, 0x00, 0x00, 0x00, 0x00, 0x00, 0x00, 0x00, 0x00, 0x00, 0x00,
@@ -119,7 +130,7 @@ static const uint8_t V[104] = {
 
 /* Volume 1: a link table, inodes of a regular file, a symbolic link and a folder, and a block of each other kind. The
  * regular file keeps the positions 0 to 3 and 4 to 11 of 14; its inode block stands at FILE_AT. */
-static const uint8_t ALL[659] = {
+const uint8_t ALL[659] = {
     0xd3, 0x48, 0x44, 0x52, 0x46, 0x53, 0x0d, 0x0a, 0x1a, 0x0a, 0x00, 0x48, 0x44, 0x52, 0x46, 0x53,
     0x00, 0x00, 0x00, 0x01, 0x02, 0x03, 0x04, 0x05, 0x06, 0x07, 0x08, 0x09, 0x0a, 0x0b, 0x0c, 0x0d,
     0x0e, 0x0f, 0x00, 0x00, 0x01, 0x00, 0x00, 0x00, 0x00, 0x00, 0x00, 0x00, 0x09, 0x09, 0x09, 0x09,
@@ -166,13 +177,11 @@ static const uint8_t ALL[659] = {
 
 enum { TABLE_AT = 80, FILE_AT = 137, LINKS_AT = 89, EXTENTS_AT = 208 };
 
-static const uint8_t LENGTHS[16] = {sizeof V, 0, 0, 0, 0, 0, 0, 0, sizeof ALL & 255, sizeof ALL / 256, 0, 0, 0, 0, 0, 0};
-
-#define TOP UINT64_MAX
+const uint8_t LENGTHS[16] = {sizeof V, 0, 0, 0, 0, 0, 0, 0, sizeof ALL & 255, sizeof ALL / 256, 0, 0, 0, 0, 0, 0};
 
 /* ---- Printing. */
 
-static void show(const char *call, const void *numbers, size_t size)
+void show(const char *call, const void *numbers, size_t size)
 {
     const uint64_t *number = numbers;
     printf("%s:", call);
@@ -181,19 +190,14 @@ static void show(const char *call, const void *numbers, size_t size)
     putchar('\n');
 }
 
-/* One call, its text and its numbers. */
-#define SHOW(type, call)                                                                                    \
-    do {                                                                                                    \
-        type answer = call;                                                                                 \
-        show(#call, &answer, sizeof answer);                                                                \
-    } while (0)
-
 /* ---- The calls. */
 
 static void check(void)
 {
     SHOW(hdrfs_checked, hdrfs_check(V, sizeof V));
     SHOW(uint64_t, hdrfs_check_refusal(V, sizeof V));
+    SHOW(uint64_t, hdrfs_check_text(V, sizeof V));
+    SHOW(uint64_t, hdrfs_check_start(V, sizeof V));
     SHOW(uint64_t, hdrfs_check_sequence(V, sizeof V));
     SHOW(uint64_t, hdrfs_check_blocks(V, sizeof V));
     SHOW(uint64_t, hdrfs_check_offset(V, sizeof V));
@@ -208,6 +212,8 @@ static void check(void)
     SHOW(uint64_t, hdrfs_check_offset(ALL, sizeof ALL - 1));
     SHOW(hdrfs_checked, hdrfs_check(NULL, 0));
     SHOW(uint64_t, hdrfs_check_refusal(NULL, 0));
+    SHOW(uint64_t, hdrfs_check_text(NULL, 0));
+    SHOW(uint64_t, hdrfs_check_start(NULL, 0));
     SHOW(uint64_t, hdrfs_check_sequence(NULL, 0));
     SHOW(uint64_t, hdrfs_check_blocks(NULL, 0));
     SHOW(uint64_t, hdrfs_check_offset(NULL, 0));
@@ -221,6 +227,8 @@ static void look_up(void)
     SHOW(hdrfs_place, hdrfs_lookup(ALL, sizeof ALL, FILE_AT, LENGTHS, sizeof LENGTHS, 3));
     SHOW(hdrfs_place, hdrfs_lookup(ALL, sizeof ALL, FILE_AT, LENGTHS, sizeof LENGTHS, 4));
     SHOW(uint64_t, hdrfs_lookup_refusal(ALL, sizeof ALL, FILE_AT, LENGTHS, sizeof LENGTHS, 4));
+    SHOW(uint64_t, hdrfs_lookup_text(ALL, sizeof ALL, FILE_AT, LENGTHS, sizeof LENGTHS, 4));
+    SHOW(uint64_t, hdrfs_lookup_start(ALL, sizeof ALL, FILE_AT, LENGTHS, sizeof LENGTHS, 4));
     SHOW(uint64_t, hdrfs_lookup_kind(ALL, sizeof ALL, FILE_AT, LENGTHS, sizeof LENGTHS, 4));
     SHOW(uint64_t, hdrfs_lookup_volume(ALL, sizeof ALL, FILE_AT, LENGTHS, sizeof LENGTHS, 4));
     SHOW(uint64_t, hdrfs_lookup_offset(ALL, sizeof ALL, FILE_AT, LENGTHS, sizeof LENGTHS, 4));
@@ -231,6 +239,8 @@ static void look_up(void)
     SHOW(hdrfs_place, hdrfs_lookup(ALL, sizeof ALL, TABLE_AT, LENGTHS, sizeof LENGTHS, 4));
     SHOW(hdrfs_place, hdrfs_lookup(V, sizeof V, 80, LENGTHS, sizeof LENGTHS, 0));
     SHOW(uint64_t, hdrfs_lookup_refusal(V, sizeof V, 80, LENGTHS, sizeof LENGTHS, 0));
+    SHOW(uint64_t, hdrfs_lookup_text(V, sizeof V, 80, LENGTHS, sizeof LENGTHS, 0));
+    SHOW(uint64_t, hdrfs_lookup_start(V, sizeof V, 80, LENGTHS, sizeof LENGTHS, 0));
     SHOW(uint64_t, hdrfs_lookup_volume(V, sizeof V, 80, LENGTHS, sizeof LENGTHS, 0));
     SHOW(uint64_t, hdrfs_lookup_offset(V, sizeof V, 80, LENGTHS, sizeof LENGTHS, 0));
     SHOW(hdrfs_place, hdrfs_lookup(V, sizeof V, TOP, LENGTHS, sizeof LENGTHS, 0));
@@ -342,9 +352,6 @@ static hdrfs_written mark;
         show(#call, &mark, sizeof mark);                                                                    \
     } while (0)
 #define AT_MARK buf, sizeof buf, mark.next, mark.due, mark.timed, mark.last, mark.number
-
-/* A text without its last byte, which is 0, as a slice. */
-#define TEXT(text) (const uint8_t *)(text), sizeof(text) - 1
 
 /* The second volume anew, block by block: the same bytes, and none behind them. */
 static void write_all(void)
@@ -504,5 +511,6 @@ int main(void)
     times_behind_a_table();
     read_at_the_top();
     write_at_the_top();
+    try_texts();
     return 0;
 }
