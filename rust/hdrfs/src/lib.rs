@@ -44,6 +44,7 @@
 #![deny(unsafe_code)]
 
 mod archive;
+mod bad_text;
 mod blocks;
 mod bookmark;
 mod extents;
@@ -67,6 +68,7 @@ pub use archive::{
     check_each, Archive, ArchiveError, ArchiveFile, ArchiveReader, Checker, Chunk, Chunks,
     CurrentInode, InodeBlock, LastLink, Member, Missing, ShortExtent,
 };
+pub use bad_text::BadText;
 pub use blocks::{Block, Blocks, Content};
 pub use bookmark::Bookmark;
 pub use extents::{Extent, ExtentIter, Extents, Multiplicity};

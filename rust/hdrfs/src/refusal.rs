@@ -3,9 +3,10 @@
 use std::error::Error;
 use std::fmt;
 
-use crate::sys;
+use crate::{sys, BadText};
 
-/// A refusal: its number, and which header or block is at fault and where it begins.
+/// A refusal: its number, which header or block is at fault and where it begins, and of a text that
+/// is not UTF-8, which one that is and where.
 ///
 /// The numbers mean the same in every call. They are the constants below, with what
 /// `docs/REFUSALS.md` says of each; it also says what to do about it. More may come.
@@ -22,6 +23,12 @@ use crate::sys;
 /// let refusal = Volume::check(&bytes).unwrap_err().refusal;
 /// assert_eq!(refusal, Refusal::new(Refusal::TIME_LOWER, 104).with_block(Some(1)));
 /// assert_eq!(refusal.to_string(), "refused 14 at 104 (block 1): time lower than the last one");
+///
+/// let bytes = std::fs::read("name_not_text.vol")?;
+/// let refusal = Volume::check(&bytes).unwrap_err().refusal;
+/// assert_eq!((refusal.number, refusal.text, refusal.start), (Refusal::NOT_TEXT, 0, 1));
+/// let line = "refused 10 at 80 (block 0): text is not UTF-8 (text 0, byte 1)";
+/// assert_eq!(refusal.to_string(), line);
 /// # Ok::<(), std::io::Error>(())
 /// ```
 #[must_use]
@@ -38,6 +45,14 @@ pub struct Refusal {
     /// is at fault or no block is meant, nor where nothing but the offset of the block was given,
     /// as to [`File::new`](crate::File::new).
     pub block: Option<u64>,
+    /// Where the number is [`NOT_TEXT`](Refusal::NOT_TEXT), which text of the block is the first that
+    /// is not UTF-8, counted from 0 in the order in which they stand there: of a rename the old path
+    /// is 0 and the new one 1, of a link table it is the place of the link. Else 0. See
+    /// [`Refusal::bad_text`].
+    pub text: u64,
+    /// Where the number is [`NOT_TEXT`](Refusal::NOT_TEXT), at which byte of that text its first
+    /// ill-formed sequence begins: so many bytes before it are UTF-8. Else 0.
+    pub start: u64,
 }
 
 /// The numbers, each with its meaning and with a few words for a line of text.
@@ -97,7 +112,8 @@ numbers! {
     /// value or path that its length field cannot hold
     OVER_LIMIT = 9, "over a limit";
 
-    /// a name, a path or a link target is not UTF-8
+    /// a name, a path or a link target is not UTF-8; two more numbers say which text of the block it
+    /// is and at which byte of it that begins
     NOT_TEXT = 10, "text is not UTF-8";
 
     /// an inode's fields contradict each other or an extent's numbers do not fit; in writing, an ID
@@ -135,11 +151,12 @@ impl Refusal {
     /// assert_eq!((refusal.number, refusal.offset, refusal.block), (3, 0, None));
     /// ```
     pub const fn new(number: u64, offset: u64) -> Refusal {
-        let block = None;
         Refusal {
             number,
             offset,
-            block,
+            block: None,
+            text: 0,
+            start: 0,
         }
     }
 
@@ -152,6 +169,44 @@ impl Refusal {
         Refusal { block, ..self }
     }
 
+    /// The same refusal about a text of the block, at a byte of that text.
+    ///
+    /// ```
+    /// use hdrfs::Refusal;
+    ///
+    /// let refusal = Refusal::new(Refusal::NOT_TEXT, 80).with_text(1, 39_999);
+    /// assert_eq!((refusal.text, refusal.start), (1, 39_999));
+    /// ```
+    pub const fn with_text(self, text: u64, start: u64) -> Refusal {
+        Refusal {
+            text,
+            start,
+            ..self
+        }
+    }
+
+    /// What the text at fault is in its block, where the number is
+    /// [`NOT_TEXT`](Refusal::NOT_TEXT). The volume has to be the one that was refused, since the kind
+    /// of the block stands there.
+    ///
+    /// ```
+    /// use hdrfs::{BadText, Volume};
+    /// # std::env::set_current_dir("../../crates/samples/data")?;
+    ///
+    /// let bytes = std::fs::read("second_path_not_text.vol")?;
+    /// let refusal = Volume::check(&bytes).unwrap_err().refusal;
+    /// assert_eq!(refusal.bad_text(&bytes), Some(BadText::NewPath));
+    /// # Ok::<(), std::io::Error>(())
+    /// ```
+    #[must_use]
+    pub fn bad_text(&self, volume: &[u8]) -> Option<BadText> {
+        if self.number != Refusal::NOT_TEXT {
+            return None;
+        }
+        let at = usize::try_from(self.offset).ok()?;
+        BadText::of(*volume.get(at)?, self.text)
+    }
+
     /// Nothing where the number of an answer is 0, the mark of an accepted call; else an error about
     /// the header or block at an offset, with the block's number if it is known.
     pub(crate) fn unless_accepted(
@@ -161,7 +216,11 @@ impl Refusal {
     ) -> Result<(), Refusal> {
         match answer.refusal() {
             0 => Ok(()),
-            number => Err(Refusal::new(number, offset).with_block(block)),
+            number => {
+                let (text, start) = answer.bad_text();
+                let refusal = Refusal::new(number, offset).with_block(block);
+                Err(refusal.with_text(text, start))
+            }
         }
     }
 }
@@ -170,6 +229,9 @@ impl Refusal {
 pub(crate) trait Answer {
     /// The number, 0 where there is none.
     fn refusal(&self) -> u64;
+
+    /// Which text is not UTF-8 and where, 0 and 0 beside every number but 10.
+    fn bad_text(&self) -> (u64, u64);
 }
 
 macro_rules! answers {
@@ -177,6 +239,10 @@ macro_rules! answers {
         impl Answer for sys::$name {
             fn refusal(&self) -> u64 {
                 self.refusal
+            }
+
+            fn bad_text(&self) -> (u64, u64) {
+                (self.text, self.start)
             }
         }
     )*};
@@ -191,7 +257,11 @@ impl fmt::Display for Refusal {
         if let Some(block) = self.block {
             write!(f, " (block {block})")?;
         }
-        write!(f, ": {}", self.words())
+        write!(f, ": {}", self.words())?;
+        if self.number == Refusal::NOT_TEXT {
+            write!(f, " (text {}, byte {})", self.text, self.start)?;
+        }
+        Ok(())
     }
 }
 

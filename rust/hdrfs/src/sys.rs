@@ -50,6 +50,8 @@ mod raw {
     extern "C" {
         pub fn hdrfs_check(volume: Bytes, volume_len: usize) -> Checked;
         pub fn hdrfs_check_refusal(volume: Bytes, volume_len: usize) -> u64;
+        pub fn hdrfs_check_text(volume: Bytes, volume_len: usize) -> u64;
+        pub fn hdrfs_check_start(volume: Bytes, volume_len: usize) -> u64;
         pub fn hdrfs_check_sequence(volume: Bytes, volume_len: usize) -> u64;
         pub fn hdrfs_check_blocks(volume: Bytes, volume_len: usize) -> u64;
         pub fn hdrfs_check_offset(volume: Bytes, volume_len: usize) -> u64;
@@ -64,6 +66,22 @@ mod raw {
             position: u64,
         ) -> Place;
         pub fn hdrfs_lookup_refusal(
+            volume: Bytes,
+            volume_len: usize,
+            offset: u64,
+            lengths: Bytes,
+            lengths_len: usize,
+            position: u64,
+        ) -> u64;
+        pub fn hdrfs_lookup_text(
+            volume: Bytes,
+            volume_len: usize,
+            offset: u64,
+            lengths: Bytes,
+            lengths_len: usize,
+            position: u64,
+        ) -> u64;
+        pub fn hdrfs_lookup_start(
             volume: Bytes,
             volume_len: usize,
             offset: u64,
@@ -288,6 +306,24 @@ on_a_volume! {
     /// ```
     check_refusal calls hdrfs_check_refusal -> u64;
 
+    /// Which text [`check`] refuses with 10, 0 where it does not.
+    ///
+    /// ```
+    /// # std::env::set_current_dir("../../crates/samples/data")?;
+    /// assert_eq!(hdrfs::sys::check_text(&std::fs::read("second_path_not_text.vol")?), 1);
+    /// # Ok::<(), std::io::Error>(())
+    /// ```
+    check_text calls hdrfs_check_text -> u64;
+
+    /// Where in that text the first ill-formed sequence begins.
+    ///
+    /// ```
+    /// # std::env::set_current_dir("../../crates/samples/data")?;
+    /// assert_eq!(hdrfs::sys::check_start(&std::fs::read("name_not_text.vol")?), 1);
+    /// # Ok::<(), std::io::Error>(())
+    /// ```
+    check_start calls hdrfs_check_start -> u64;
+
     /// The sequence number of [`check`].
     ///
     /// ```
@@ -367,6 +403,26 @@ on_a_position! {
     /// assert_eq!(hdrfs::sys::lookup_refusal(&[], 80, &[], 0), 2);
     /// ```
     lookup_refusal calls hdrfs_lookup_refusal -> u64;
+
+    /// Which text of the block [`lookup`] refuses with 10, 0 where it does not.
+    ///
+    /// ```
+    /// # std::env::set_current_dir("../../crates/samples/data")?;
+    /// let volume = std::fs::read("second_path_not_text.vol")?;
+    /// assert_eq!(hdrfs::sys::lookup_text(&volume, 80, &[], 0), 1);
+    /// # Ok::<(), std::io::Error>(())
+    /// ```
+    lookup_text calls hdrfs_lookup_text -> u64;
+
+    /// Where in that text the first ill-formed sequence begins.
+    ///
+    /// ```
+    /// # std::env::set_current_dir("../../crates/samples/data")?;
+    /// let volume = std::fs::read("name_not_text.vol")?;
+    /// assert_eq!(hdrfs::sys::lookup_start(&volume, 80, &[], 0), 1);
+    /// # Ok::<(), std::io::Error>(())
+    /// ```
+    lookup_start calls hdrfs_lookup_start -> u64;
 
     /// The kind of [`lookup`].
     ///

@@ -45,6 +45,7 @@ fn answers_come_in_the_order_of_the_paths() {
                     path,
                     refusal,
                     blocks,
+                    ..
                 }) => {
                     assert_eq!(path, paths[place]);
                     Err((refusal.number, blocks))

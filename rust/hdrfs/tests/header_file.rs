@@ -127,7 +127,7 @@ fn structs_are_the_same() {
 
 #[test]
 fn functions_are_the_same() {
-    assert_eq!(functions_of_the_header().len(), 27);
+    assert_eq!(functions_of_the_header().len(), 31);
     assert_eq!(functions_of_the_header(), functions_of_the_crate());
 }
 

@@ -72,6 +72,26 @@ fn a_refusal_is_an_error_with_a_line() {
     );
 }
 
+/// Which text and where is said of 10 alone: the two numbers of others mean nothing.
+#[test]
+fn a_text_that_is_not_utf_8_has_two_numbers_more() {
+    let refusal = Refusal::new(Refusal::NOT_TEXT, 80).with_block(Some(0));
+    assert_eq!((refusal.text, refusal.start), (0, 0));
+    assert_eq!(
+        refusal.with_text(1, 39_999).to_string(),
+        "refused 10 at 80 (block 0): text is not UTF-8 (text 1, byte 39999)"
+    );
+    assert_eq!(
+        refusal.with_block(None).to_string(),
+        "refused 10 at 80: text is not UTF-8 (text 0, byte 0)"
+    );
+    assert_eq!(refusal.with_text(1, 2).words(), "text is not UTF-8");
+    assert_eq!(
+        Refusal::new(5, 80).with_text(1, 2).to_string(),
+        "refused 5 at 80: checksum wrong"
+    );
+}
+
 #[test]
 fn a_rejected_volume_says_how_many_blocks_were_sound() {
     let rejected = Volume::check(b"").unwrap_err();

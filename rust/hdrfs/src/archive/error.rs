@@ -5,7 +5,7 @@ use std::fmt;
 use std::io;
 use std::path::{Path, PathBuf};
 
-use crate::{Extent, Refusal, Rejected};
+use crate::{BadText, Extent, Refusal, Rejected};
 
 /// Why an archive, or a file in it, cannot be had.
 ///
@@ -34,6 +34,8 @@ pub enum ArchiveError {
         refusal: Refusal,
         /// How many of its blocks were accepted before, where the whole volume was checked.
         blocks: Option<u64>,
+        /// What the text is that is not UTF-8, where it is refused for that.
+        bad_text: Option<BadText>,
     },
     /// Two volumes have different file system IDs, so that they are no set.
     TwoFileSystems {
@@ -120,20 +122,23 @@ impl ArchiveError {
         ArchiveError::Io { path, error }
     }
 
-    /// Something asked of a checked volume is refused.
+    /// Something asked of a checked volume is refused. Its texts are all UTF-8.
     pub(crate) fn refused(path: &Path, refusal: Refusal) -> ArchiveError {
         ArchiveError::Refused {
             path: path.to_path_buf(),
             refusal,
             blocks: None,
+            bad_text: None,
         }
     }
 
-    pub(crate) fn rejected(path: PathBuf, rejected: Rejected) -> ArchiveError {
+    /// A volume is refused as a whole.
+    pub(crate) fn rejected(path: &Path, volume: &[u8], rejected: Rejected) -> ArchiveError {
         ArchiveError::Refused {
-            path,
+            path: path.to_path_buf(),
             refusal: rejected.refusal,
             blocks: Some(rejected.blocks),
+            bad_text: rejected.refusal.bad_text(volume),
         }
     }
 }
@@ -144,8 +149,14 @@ impl fmt::Display for ArchiveError {
             ArchiveError::Io { path, error } => {
                 write!(f, "{}: cannot be read: {error}", path.display())
             }
-            ArchiveError::Refused { path, refusal, .. } => {
-                write!(f, "{}: {refusal}", path.display())
+            ArchiveError::Refused {
+                path,
+                refusal,
+                bad_text,
+                ..
+            } => {
+                write!(f, "{}: {refusal}", path.display())?;
+                bad_text.map_or(Ok(()), |text| write!(f, ": {text}"))
             }
             ArchiveError::TwoFileSystems { first, second } => write!(
                 f,

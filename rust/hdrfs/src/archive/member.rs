@@ -261,6 +261,6 @@ fn check(path: &Path, volume: &[u8]) -> Result<(Scanned, Found), ArchiveError> {
     let mut finder = Finder::new(volume);
     match scan(volume, |offset, block| finder.visit(offset, block)) {
         Ok(scanned) => Ok((scanned, finder.finish())),
-        Err(rejected) => Err(ArchiveError::rejected(path.to_path_buf(), rejected)),
+        Err(rejected) => Err(ArchiveError::rejected(path, volume, rejected)),
     }
 }

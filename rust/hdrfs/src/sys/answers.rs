@@ -12,6 +12,10 @@
 pub struct Checked {
     /// 0: accepted.
     pub refusal: u64,
+    /// Beside refusal 10, which text of the block is not UTF-8, counted from 0; else 0.
+    pub text: u64,
+    /// Beside refusal 10, where in that text the first ill-formed sequence begins; else 0.
+    pub start: u64,
     /// The sequence number.
     pub sequence: u64,
     /// Blocks after the header that were accepted, the link table included: the number of the end
@@ -36,6 +40,10 @@ pub struct Checked {
 pub struct Place {
     /// 0: not refused.
     pub refusal: u64,
+    /// Beside refusal 10, which text of the block is not UTF-8, counted from 0; else 0.
+    pub text: u64,
+    /// Beside refusal 10, where in that text the first ill-formed sequence begins; else 0.
+    pub start: u64,
     /// [`HOLE`](super::HOLE), [`STORED`](super::STORED) or [`PAST_END`](super::PAST_END).
     pub kind: u64,
     /// The sequence number of the volume that has the byte.
@@ -55,6 +63,10 @@ pub struct Place {
 pub struct RunCount {
     /// 0: not refused; 17: there are more runs than there is room for.
     pub refusal: u64,
+    /// Beside refusal 10, which text of the block is not UTF-8, counted from 0; else 0.
+    pub text: u64,
+    /// Beside refusal 10, where in that text the first ill-formed sequence begins; else 0.
+    pub start: u64,
     /// How many runs were stored.
     pub count: u64,
 }
@@ -70,6 +82,10 @@ pub struct RunCount {
 pub struct Heading {
     /// 0: accepted.
     pub refusal: u64,
+    /// Always 0: a header has no text.
+    pub text: u64,
+    /// Always 0, likewise.
+    pub start: u64,
     /// The sequence number.
     pub sequence: u64,
     /// The offset of the bookmark after the header.
@@ -93,6 +109,10 @@ pub struct Heading {
 pub struct Block {
     /// 0: not refused.
     pub refusal: u64,
+    /// Beside refusal 10, which text of the block is not UTF-8, counted from 0; else 0.
+    pub text: u64,
+    /// Beside refusal 10, where in that text the first ill-formed sequence begins; else 0.
+    pub start: u64,
     /// 1: the bookmark stands at the end of the volume, and there is no block.
     pub end: u64,
     /// The kind of block, 1 to 8.
@@ -207,6 +227,10 @@ pub struct ExtentEntry {
 pub struct Source {
     /// 0: not refused.
     pub refusal: u64,
+    /// Always 0: only headers are read, and they have no text.
+    pub text: u64,
+    /// Always 0, likewise.
+    pub start: u64,
     /// 0: the first volume has them; 1: the second.
     pub which: u64,
 }
@@ -222,6 +246,10 @@ pub struct Source {
 pub struct Written {
     /// 0: not refused; 17: the buffer has too little room.
     pub refusal: u64,
+    /// Beside refusal 10, which text of the block is not UTF-8, counted from 0; else 0.
+    pub text: u64,
+    /// Beside refusal 10, where in that text the first ill-formed sequence begins; else 0.
+    pub start: u64,
     /// The offset of the bookmark.
     pub next: u64,
     /// 1: a link table is due there.

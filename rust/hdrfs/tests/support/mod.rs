@@ -1,9 +1,10 @@
 //! Volumes for tests, put together field by field.
 #![allow(dead_code)] // Each test file uses a part of this one.
 
-/// The mode of a regular file, and of a folder.
+/// The mode of a regular file, of a folder, and of a symbolic link.
 pub const REGULAR: u16 = 0o100_644;
 pub const FOLDER: u16 = 0o040_755;
+pub const SYMBOLIC_LINK: u16 = 0o120_777;
 
 /// The kinds of blocks that [`link`] makes.
 pub const LINK: u8 = 2;
@@ -60,14 +61,48 @@ pub fn file(time: u64, number: u64, size: u64, extents: &[Extent]) -> Vec<u8> {
     inode(time, number, REGULAR, size, &rest)
 }
 
-/// A link or unlink block.
-pub fn link(kind: u8, time: u64, child: u64, parent: u64, name: &str) -> Vec<u8> {
+/// A link or unlink block. Its name may be any bytes, like all texts here.
+pub fn link(kind: u8, time: u64, child: u64, parent: u64, name: impl AsRef<[u8]>) -> Vec<u8> {
+    let name = name.as_ref();
     let mut body = vec![kind];
     for number in [time, child, parent] {
         body.extend(number.to_le_bytes());
     }
     body.extend((name.len() as u16).to_le_bytes());
-    body.extend(name.as_bytes());
+    body.extend(name);
+    sealed(body)
+}
+
+pub fn xattr(time: u64, inode: u64, name: &[u8], value: &[u8]) -> Vec<u8> {
+    let mut body = vec![4];
+    for number in [time, inode] {
+        body.extend(number.to_le_bytes());
+    }
+    body.push(name.len() as u8);
+    body.extend((value.len() as u16).to_le_bytes());
+    body.extend(name);
+    body.extend(value);
+    sealed(body)
+}
+
+pub fn removed_xattr(time: u64, inode: u64, name: &[u8]) -> Vec<u8> {
+    let mut body = vec![5];
+    for number in [time, inode] {
+        body.extend(number.to_le_bytes());
+    }
+    body.push(name.len() as u8);
+    body.extend(name);
+    sealed(body)
+}
+
+pub fn rename(time: u64, old: &[u8], new: &[u8]) -> Vec<u8> {
+    let mut body = vec![7];
+    body.extend(time.to_le_bytes());
+    for path in [old, new] {
+        body.extend((path.len() as u16).to_le_bytes());
+    }
+    body.extend(old);
+    body.extend(new);
     sealed(body)
 }
 

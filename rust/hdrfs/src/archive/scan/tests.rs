@@ -11,15 +11,17 @@ use crate::{sys, Volume};
 fn checked(volume: &[u8]) -> sys::Checked {
     match scan(volume, |_, _| ()) {
         Ok(scanned) => sys::Checked {
-            refusal: 0,
             sequence: scanned.heading.sequence,
             blocks: scanned.end.number,
             offset: scanned.end.offset,
             timed: u64::from(scanned.end.last_time.is_some()),
             time: scanned.end.last_time.unwrap_or(0),
+            ..Default::default()
         },
         Err(rejected) => sys::Checked {
             refusal: rejected.refusal.number,
+            text: rejected.refusal.text,
+            start: rejected.refusal.start,
             blocks: rejected.blocks,
             offset: rejected.refusal.offset,
             ..Default::default()
