@@ -3,7 +3,7 @@
 use crate::bytes::{u16_at, u32_at, u64_at};
 use crate::links::{self, Links};
 use crate::refusal::*;
-use crate::utf8::is_text;
+use crate::utf8::require_text;
 use crate::{crc, extent, EXTENT_LIMIT, HEADER_LENGTH, LINK_LIMIT, VOLUME_LIMIT};
 
 pub const INODE: u8 = 1;
@@ -283,12 +283,10 @@ fn decode(id: u8, image: &[u8], offset: u64) -> Result<(Body<'_>, Option<u64>), 
         start: offset + from as u64,
         bytes: &image[from..to],
     };
-    let text = |from: usize, to: usize| {
-        if is_text(&image[from..to]) {
-            Ok(part(from, to))
-        } else {
-            Err(NOT_TEXT)
-        }
+    // The text of this place among those of the block.
+    let text = |place: u64, from: usize, to: usize| {
+        require_text(place, &image[from..to])?;
+        Ok(part(from, to))
     };
     let number = |at| u64_at(image, at);
     let end = image.len();
@@ -311,7 +309,7 @@ fn decode(id: u8, image: &[u8], offset: u64) -> Result<(Body<'_>, Option<u64>), 
             return Ok((Body::Inode { stat, variable }, Some(stat.time)));
         }
         LINK | UNLINK => {
-            let (child, parent, name) = (number(9), number(17), text(27, end)?);
+            let (child, parent, name) = (number(9), number(17), text(0, 27, end)?);
             if id == LINK {
                 Body::Link {
                     child,
@@ -330,13 +328,13 @@ fn decode(id: u8, image: &[u8], offset: u64) -> Result<(Body<'_>, Option<u64>), 
             let middle = 20 + usize::from(image[17]);
             Body::Xattr {
                 inode: number(9),
-                name: text(20, middle)?,
+                name: text(0, 20, middle)?,
                 value: part(middle, end),
             }
         }
         REMOVED_XATTR => Body::RemovedXattr {
             inode: number(9),
-            name: text(18, end)?,
+            name: text(0, 18, end)?,
         },
         DATA => Body::Data {
             payload: part(17, end),
@@ -344,8 +342,8 @@ fn decode(id: u8, image: &[u8], offset: u64) -> Result<(Body<'_>, Option<u64>), 
         RENAME => {
             let middle = 13 + usize::from(u16_at(image, 9));
             Body::Rename {
-                old: text(13, middle)?,
-                new: text(middle, end)?,
+                old: text(0, 13, middle)?,
+                new: text(1, middle, end)?,
             }
         }
         _ => {
@@ -368,9 +366,7 @@ pub(crate) fn inode_rules(stat: &Stat, variable: &[u8]) -> Result<(), Refusal> {
             return Err(OVERLAP);
         }
     } else if stat.is_symbolic_link() {
-        if !is_text(variable) {
-            return Err(NOT_TEXT);
-        }
+        require_text(0, variable)?;
         if stat.size != 70 + variable.len() as u64 {
             return Err(FIELD);
         }
@@ -382,8 +378,8 @@ pub(crate) fn inode_rules(stat: &Stat, variable: &[u8]) -> Result<(), Refusal> {
 
 /// The rules on the contents of a table whose links fill these bytes.
 pub(crate) fn table_rules(bytes: &[u8]) -> Result<(), Refusal> {
-    if !Links::new(bytes).all(|link| is_text(link.name)) {
-        return Err(NOT_TEXT);
+    for (place, link) in (0..).zip(Links::new(bytes)) {
+        require_text(place, link.name)?;
     }
     if links::twice(bytes) {
         return Err(LINK_TWICE);

@@ -3,6 +3,7 @@
 use crate::block::{read_with, Bookmark, Reading};
 use crate::crc;
 use crate::header::read_header;
+use crate::refusal::Refusal;
 
 #[derive(Clone, Copy, Debug, PartialEq, Eq)]
 pub enum Verdict {
@@ -13,7 +14,7 @@ pub enum Verdict {
         end: Bookmark,
     },
     Refused {
-        number: u64,
+        refusal: Refusal,
         /// Where the header or block at fault begins.
         offset: u64,
         /// Blocks before it, and so the number of the block at fault.
@@ -30,9 +31,9 @@ pub fn check(volume: &[u8]) -> Verdict {
 pub fn check_with(volume: &[u8], crc: impl Fn(&[u8]) -> u32) -> Verdict {
     let header = match read_header(volume) {
         Ok(header) => header,
-        Err(number) => {
+        Err(refusal) => {
             return Verdict::Refused {
-                number,
+                refusal,
                 offset: 0,
                 blocks: 0,
             }
@@ -49,9 +50,9 @@ pub fn check_with(volume: &[u8], crc: impl Fn(&[u8]) -> u32) -> Verdict {
                     end: mark,
                 }
             }
-            Err(number) => {
+            Err(refusal) => {
                 return Verdict::Refused {
-                    number,
+                    refusal,
                     offset: mark.offset,
                     blocks: mark.number,
                 }

@@ -6,7 +6,7 @@
 use std::collections::{BTreeMap, BTreeSet};
 
 use crate::extent::{extents, Extent, REPEATED};
-use crate::refusal::{NOT_REGULAR, NOT_THERE};
+use crate::refusal::{Refusal, NOT_REGULAR, NOT_THERE};
 use crate::set::Inode;
 use crate::LENGTHS_LIMIT;
 
@@ -46,8 +46,8 @@ pub struct Beyond {
 }
 
 impl FileRefusal {
-    /// The number for saying no, if the rules have one for it.
-    pub fn number(&self) -> Option<u64> {
+    /// The refusal, if the rules have one for it.
+    pub fn refusal(&self) -> Option<Refusal> {
         match self {
             FileRefusal::NoInode => None,
             FileRefusal::NotRegular => Some(NOT_REGULAR),

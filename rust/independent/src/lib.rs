@@ -4,8 +4,9 @@
 //! against answer, and by benchmarks, time against time. It shares no code
 //! with what it is compared to.
 //!
-//! Every call works on lent bytes and answers any input. Refusals are plain
-//! numbers; [`refusal`] names them.
+//! Every call works on lent bytes and answers any input. Refusals are
+//! numbers, and where a text is at fault the place of that; [`refusal`] names
+//! them.
 
 #![forbid(unsafe_code)]
 

@@ -4,7 +4,7 @@ use std::fmt::Write;
 
 use crate::block::{read, Reading};
 use crate::header::read_header;
-use crate::refusal::TOO_LONG;
+use crate::refusal::{Refusal, TOO_LONG};
 
 /// The longest volume that is listed, in bytes.
 pub const LISTING_LIMIT: usize = 65_536;
@@ -19,17 +19,17 @@ pub fn listing(volume: &[u8]) -> String {
     };
     match last {
         Ok((offset, blocks)) => writeln!(text, "end {offset} blocks {blocks}"),
-        Err((number, offset)) => writeln!(text, "refused {number} at {offset}"),
+        Err((refusal, offset)) => writeln!(text, "refused {} at {offset}", refusal.number),
     }
     .expect("a string takes all text");
     text
 }
 
 /// The end and the number of blocks, or the refusal and where.
-fn list_blocks(volume: &[u8], text: &mut String) -> Result<(u64, u64), (u64, u64)> {
-    let mut mark = read_header(volume).map_err(|number| (number, 0))?.next;
+fn list_blocks(volume: &[u8], text: &mut String) -> Result<(u64, u64), (Refusal, u64)> {
+    let mut mark = read_header(volume).map_err(|refusal| (refusal, 0))?.next;
     loop {
-        match read(volume, mark).map_err(|number| (number, mark.offset))? {
+        match read(volume, mark).map_err(|refusal| (refusal, mark.offset))? {
             Reading::End => return Ok((mark.offset, mark.number)),
             Reading::Block(block, next) => {
                 writeln!(text, "{} {} {}", block.offset, block.id, block.length)

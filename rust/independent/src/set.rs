@@ -11,15 +11,16 @@ use crate::check::{check, Verdict};
 use crate::content::{self, File, FileRefusal};
 use crate::header::{read_header, Header};
 use crate::links::Links;
+use crate::refusal::Refusal;
 
 /// A reason why some volumes are no set. Places count the volumes in the
 /// order in which they were given, from 0.
 #[derive(Clone, Copy, Debug, PartialEq, Eq, PartialOrd, Ord)]
 pub enum SetFault {
-    /// A volume is refused, by the number, at the offset, after so many blocks.
+    /// A volume is refused so, at the offset, after so many blocks.
     Refused {
         place: usize,
-        number: u64,
+        refusal: Refusal,
         offset: u64,
         blocks: u64,
     },
@@ -42,12 +43,12 @@ pub fn set_faults(volumes: &[&[u8]]) -> Vec<SetFault> {
         match check(volume) {
             Verdict::Accepted { .. } => headers.push((place, header(volume))),
             Verdict::Refused {
-                number,
+                refusal,
                 offset,
                 blocks,
             } => faults.push(SetFault::Refused {
                 place,
-                number,
+                refusal,
                 offset,
                 blocks,
             }),

@@ -9,7 +9,7 @@ use crate::block::{
 };
 use crate::header::{after_header, MAGIC_BYTES};
 use crate::refusal::*;
-use crate::utf8::is_text;
+use crate::utf8::require_text;
 use crate::{crc, links, HEADER_LENGTH, LINK_LIMIT, VOLUME_LIMIT};
 
 /// Writes a header at the front of the buffer.
@@ -92,7 +92,7 @@ fn link(
 ) -> Result<Bookmark, Refusal> {
     place(mark, false)?;
     let n = u16::try_from(name.len()).map_err(|_| OVER_LIMIT)?;
-    text(name)?;
+    require_text(0, name)?;
     let fields: [&[u8]; 5] = [
         &[id],
         &time.to_le_bytes(),
@@ -114,7 +114,7 @@ pub fn append_xattr(
     place(mark, false)?;
     let n = u8::try_from(name.len()).map_err(|_| OVER_LIMIT)?;
     let m = u16::try_from(value.len()).map_err(|_| OVER_LIMIT)?;
-    text(name)?;
+    require_text(0, name)?;
     let fields: [&[u8]; 6] = [
         &[XATTR],
         &time.to_le_bytes(),
@@ -135,7 +135,7 @@ pub fn append_removed_xattr(
 ) -> Result<Bookmark, Refusal> {
     place(mark, false)?;
     let n = u8::try_from(name.len()).map_err(|_| OVER_LIMIT)?;
-    text(name)?;
+    require_text(0, name)?;
     let fields: [&[u8]; 4] = [
         &[REMOVED_XATTR],
         &time.to_le_bytes(),
@@ -167,8 +167,8 @@ pub fn append_rename(
     place(mark, false)?;
     let n = u16::try_from(old.len()).map_err(|_| OVER_LIMIT)?;
     let m = u16::try_from(new.len()).map_err(|_| OVER_LIMIT)?;
-    text(old)?;
-    text(new)?;
+    require_text(0, old)?;
+    require_text(1, new)?;
     let fields: [&[u8]; 5] = [
         &[RENAME],
         &time.to_le_bytes(),
@@ -205,14 +205,6 @@ fn place(mark: Bookmark, table: bool) -> Result<(), Refusal> {
         return Err(OUT_OF_PLACE);
     }
     mark.admit_one_more()
-}
-
-fn text(bytes: &[u8]) -> Result<(), Refusal> {
-    if is_text(bytes) {
-        Ok(())
-    } else {
-        Err(NOT_TEXT)
-    }
 }
 
 /// The checks that come last in each append, and then the writing.

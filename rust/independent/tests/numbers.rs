@@ -34,12 +34,12 @@ fn readings_of_v() {
             Ok(Some((TOP - 1, end(TOP)))),
         ),
         (&v, end(TOP), Ok(None)),
-        (&v, by(80, false, None, TOP), Err(9)),
-        (&v, by(80, false, Some(8), TOP), Err(14)),
-        (&damaged, by(80, false, Some(8), TOP), Err(5)),
-        (&v, by(80, true, None, TOP), Err(8)),
-        (&v, by(79, false, None, TOP), Err(8)),
-        (&v, by(105, false, None, TOP), Err(2)),
+        (&v, by(80, false, None, TOP), no(9)),
+        (&v, by(80, false, Some(8), TOP), no(14)),
+        (&damaged, by(80, false, Some(8), TOP), no(5)),
+        (&v, by(80, true, None, TOP), no(8)),
+        (&v, by(79, false, None, TOP), no(8)),
+        (&v, by(105, false, None, TOP), no(2)),
     ];
     for (volume, mark, answer) in rows {
         assert_eq!(told(volume, mark), answer, "{mark:?}");
@@ -68,7 +68,7 @@ fn appends_to_v_that_cannot_be_counted() {
     ];
     for (append, mark, refusal) in rows {
         let mut buffer = with_room(99);
-        assert_eq!(append(&mut buffer, mark, 7), Err(refusal), "{mark:?}");
+        assert_eq!(append(&mut buffer, mark, 7), no(refusal), "{mark:?}");
         assert_eq!(buffer, with_room(99));
     }
 }
@@ -80,7 +80,7 @@ fn the_last_append_to_v_that_can_be_counted() {
     let end = by(128, false, Some(7), TOP);
     assert_eq!(next, Ok(end));
     let kept = buffer.clone();
-    assert_eq!(append_data(&mut buffer, end, 7, b"1,5"), Err(9));
+    assert_eq!(append_data(&mut buffer, end, 7, b"1,5"), no(9));
     assert_eq!(buffer, kept);
     assert_eq!(told(&buffer[..128], end), Ok(None));
 }
@@ -108,9 +108,9 @@ fn every_kind_is_counted() {
             assert_eq!(append(&mut blank.clone(), from, 9), Ok(next));
         }
         let full = by(80, due, Some(9), TOP);
-        assert_eq!(told(&bytes, full), Err(9));
+        assert_eq!(told(&bytes, full), no(9));
         let mut buffer = blank.clone();
-        assert_eq!(append(&mut buffer, full, 9), Err(9));
+        assert_eq!(append(&mut buffer, full, 9), no(9));
         assert_eq!(buffer, blank);
     }
 }

@@ -3,10 +3,16 @@
 mod common;
 
 use common::*;
-use independent::{check, listing, lookup, run_count, runs, Extent, Place, Verdict};
+use independent::{check, listing, lookup, run_count, runs, Extent, Place, Refusal, Verdict};
 
 /// Runs as rows, or the refusal; unused room must stay untouched.
-fn rows(bytes: &[u8], lengths: &[u8], from: u64, to: u64, room: usize) -> Result<Vec<u64>, u64> {
+fn rows(
+    bytes: &[u8],
+    lengths: &[u8],
+    from: u64,
+    to: u64,
+    room: usize,
+) -> Result<Vec<u64>, Refusal> {
     let mut out = vec![77; room];
     let answer = runs(bytes, 80, lengths, from, to, &mut out);
     let used = 5 * answer.unwrap_or(0) as usize;
@@ -72,7 +78,7 @@ fn file_b() {
         11, 3, 0, 0, 0, // hole
     ];
     assert_eq!(rows(&b, &table, 0, 14, 25), Ok(expected));
-    assert_eq!(rows(&b, &table, 0, 14, 24), Err(17));
+    assert_eq!(rows(&b, &table, 0, 14, 24), no(17));
     assert_eq!(run_count(&b, 80, &table, 0, 14), Ok(5));
     assert_eq!(kept(3, 82, 3, 1, 1, 4), Some(7));
 }

@@ -5,7 +5,7 @@
 mod common;
 
 use common::*;
-use independent::{set_faults, Beyond, FileRefusal, Lacking, LastLink, Set, SetFault};
+use independent::{set_faults, Beyond, FileRefusal, Lacking, LastLink, Refusal, Set, SetFault};
 
 /// An inode block with another number than 5.
 fn numbered(number: u64, image: Vec<u8>) -> Vec<u8> {
@@ -91,9 +91,9 @@ fn the_last_block_of_a_volume_has_the_current_inode() {
         assert_eq!(set.inodes().len(), 2);
         assert_eq!(set.inodes()[&6].variable.bytes, b"up");
         assert_eq!(set.file(5).unwrap_err(), FileRefusal::NotRegular);
-        assert_eq!(set.file(6).unwrap_err().number(), Some(15));
+        assert_eq!(set.file(6).unwrap_err().refusal(), Some(Refusal::of(15)));
         assert_eq!(set.file(7).unwrap_err(), FileRefusal::NoInode);
-        assert_eq!(set.file(7).unwrap_err().number(), None);
+        assert_eq!(set.file(7).unwrap_err().refusal(), None);
     }
 }
 
@@ -194,7 +194,7 @@ fn what_is_lacking_is_told() {
     };
     let refusal = set(&[&zero, &one]).file(5).unwrap_err();
     assert_eq!(refusal, lacking(&[3, 9], &[], &[beyond(3), beyond(5)]));
-    assert_eq!(refusal.number(), Some(16));
+    assert_eq!(refusal.refusal(), Some(Refusal::of(16)));
     let refusal = set(&[&zero]).file(5).unwrap_err();
     assert_eq!(refusal, lacking(&[1, 3, 9], &[], &[]));
 }
@@ -248,7 +248,7 @@ fn refused_volumes() {
     broken[242] ^= 1;
     let refused = SetFault::Refused {
         place: 0,
-        number: 5,
+        refusal: Refusal::of(5),
         offset: 111,
         blocks: 1,
     };
@@ -260,7 +260,7 @@ fn refused_volumes() {
     assert_eq!(set_faults(&[&broken, &zero, &other]), [refused, apart]);
     let cut = SetFault::Refused {
         place: 1,
-        number: 2,
+        refusal: Refusal::of(2),
         offset: 0,
         blocks: 0,
     };

@@ -20,7 +20,7 @@ enum Append<'a> {
     Table(u64, &'a [u8]),
 }
 
-fn append(buffer: &mut [u8], mark: Bookmark, what: &Append) -> Result<Bookmark, u64> {
+fn append(buffer: &mut [u8], mark: Bookmark, what: &Append) -> Result<Bookmark, Refusal> {
     match what {
         Append::Inode(stat, variable) => append_inode(buffer, mark, stat, variable),
         Append::Link(time, name) => append_link(buffer, mark, *time, 5, 1, name),
@@ -47,7 +47,7 @@ fn refusal_once(room: usize, mark: Bookmark, what: &Append) -> u64 {
     let mut buffer = vec![0xEE; room];
     let answer = append(&mut buffer, mark, what);
     assert!(answer.is_ok() || buffer.iter().all(|&byte| byte == 0xEE));
-    answer.err().unwrap_or(0)
+    number(answer)
 }
 
 #[test]
@@ -68,7 +68,7 @@ fn header_writer_order() {
         let mut buffer = vec![0xEE; room];
         let answer = write_header(&mut buffer, id, sequence, hash);
         assert!(buffer.iter().all(|&byte| byte == 0xEE));
-        answer.unwrap_err()
+        number(answer)
     };
     assert_eq!(refusal(0, &[7; 15], 0, &[9; 32]), 11);
     assert_eq!(refusal(0, &[7; 17], 0, &[9; 32]), 11);

@@ -1,6 +1,8 @@
 //! Bytes of headers and blocks, put together by hand.
 #![allow(dead_code)]
 
+pub mod texts;
+
 use std::fs;
 use std::path::PathBuf;
 
@@ -234,10 +236,25 @@ pub fn accepted(sequence: u64, blocks: u64, end: u64, last: Option<u64>) -> Verd
     }
 }
 
+/// A verdict by a number that says no more.
 pub fn refused(number: u64, offset: u64, blocks: u64) -> Verdict {
     Verdict::Refused {
-        number,
+        refusal: Refusal::of(number),
         offset,
         blocks,
     }
+}
+
+/// A refusal by a number that says no more.
+pub fn no<T>(number: u64) -> Result<T, Refusal> {
+    Err(Refusal::of(number))
+}
+
+/// The number of an answer, 0 if it is no refusal. Only beside 10 may more
+/// be said.
+pub fn number<T>(answer: Result<T, Refusal>) -> u64 {
+    let refusal = answer.err().unwrap_or(Refusal::of(0));
+    let says_more = refusal != Refusal::of(refusal.number);
+    assert!(!says_more || refusal.number == 10, "{refusal:?}");
+    refusal.number
 }
