@@ -28,16 +28,19 @@ pub enum Kind {
     Double,
     /// One volume is refused.
     Damaged,
+    /// One volume is refused, mostly for a text.
+    NotText,
 }
 
 impl Kind {
-    pub const ALL: [Kind; 6] = [
+    pub const ALL: [Kind; 7] = [
         Kind::Whole,
         Kind::Gaps,
         Kind::Far,
         Kind::Foreign,
         Kind::Double,
         Kind::Damaged,
+        Kind::NotText,
     ];
 
     /// Whether such a set is one archive.
@@ -61,7 +64,8 @@ pub struct Archive {
 pub fn archive(seed: u64) -> Archive {
     let mut rng = Rng::new(seed);
     let kind = match rng.below(20) {
-        0..=11 => Kind::Whole,
+        0..=9 => Kind::Whole,
+        10 | 11 => Kind::NotText,
         12..=14 => Kind::Gaps,
         15 => Kind::Far,
         16 => Kind::Foreign,
@@ -81,6 +85,7 @@ fn of_kind(seed: u64, mut rng: Rng, kind: Kind) -> Archive {
         Kind::Foreign => spoil::foreign(&mut rng, &mut volumes),
         Kind::Double => spoil::double(&mut rng, &mut volumes),
         Kind::Damaged => spoil::damage(&mut rng, &mut volumes),
+        Kind::NotText => spoil::bad_text(&mut rng, &mut volumes),
     }
     rng.shuffle(&mut volumes);
     let mut numbers = log.numbers;

@@ -1,7 +1,11 @@
-//! Inputs for benchmarks. All are accepted, and all volumes but that of [`copies`] have 16 MiB.
+//! Inputs for benchmarks. All are accepted but those with a name at fault, and all volumes but that
+//! of [`copies`] have 16 MiB.
+
+use std::ops::Range;
 
 use crate::image::{self, Extent, Stat, COUNTED, LIMIT, REPEATED};
 use crate::rng::Rng;
+use crate::texts::Fault;
 
 /// The order in which extents or links stand.
 #[derive(Clone, Copy, Debug, PartialEq, Eq)]
@@ -180,6 +184,65 @@ pub fn table_of(order: Order, links: u64, length: usize) -> Vec<u8> {
     volume.extend_from_slice(&image::table(links, &list.concat()));
     fill(&mut volume, 1);
     volume
+}
+
+/// A volume, and the same with a byte at the end of its last name that stands in no text.
+pub struct LastName {
+    pub name: &'static str,
+    pub sound: Vec<u8>,
+    pub bad: Vec<u8>,
+    /// Where the block with that name begins, and what it is refused for.
+    pub offset: u64,
+    pub fault: Fault,
+}
+
+/// The volumes whose last name is at fault, made one at a time.
+pub fn last_names() -> impl Iterator<Item = LastName> {
+    type Make = fn() -> Vec<u8>;
+    let list: [(&'static str, Make); 2] = [
+        ("links of 100 bytes", links_to_the_end),
+        ("4,096 long names", || table_long_names(Order::Rising)),
+    ];
+    list.into_iter()
+        .map(|(name, make)| with_last_name(name, make()))
+}
+
+/// Links of 100 bytes up to the last byte. What is left over stands before them.
+fn links_to_the_end() -> Vec<u8> {
+    let name = "water level ünïcödé ".repeat(4);
+    let mut volume = start(0);
+    let payload = (LIMIT - volume.len()) % 100 - 21;
+    volume.extend_from_slice(&image::data(0, &vec![b'5'; payload]));
+    let mut time = 0;
+    while volume.len() < LIMIT {
+        time += 1;
+        let name = &name.as_bytes()[..69];
+        volume.extend_from_slice(&image::link(image::LINK, time, time, 1, name));
+    }
+    volume
+}
+
+fn with_last_name(name: &'static str, sound: Vec<u8>) -> LastName {
+    let mut bad = sound.clone();
+    let texts = |block: &Range<usize>| image::texts(&sound[block.clone()]);
+    let mut blocks = image::blocks(&sound).into_iter();
+    let block = blocks.rfind(|block| !texts(block).is_empty());
+    let block = block.expect("a block with a name");
+    let names = texts(&block);
+    let last = names.last().expect("a name");
+    bad[block.start + last.end - 1] = 0xFF;
+    image::reseal(&mut bad[block.clone()]);
+    let fault = Fault {
+        text: names.len() as u64 - 1,
+        start: last.len() as u64 - 1,
+    };
+    LastName {
+        name,
+        offset: block.start as u64,
+        fault,
+        sound,
+        bad,
+    }
 }
 
 /// The inode number of the file in [`archive`] and in [`copies`].

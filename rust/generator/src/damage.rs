@@ -24,7 +24,7 @@ fn harm(rng: &mut Rng, draft: &mut Draft) {
     }
     let at = spot(rng, draft);
     let bytes = &mut draft.bytes;
-    match rng.below(12) {
+    match rng.below(13) {
         0 => bytes.truncate(rng.index(length)),
         1 => bytes.truncate(at),
         2 | 3 => bytes[at] ^= 1 << rng.below(8),
@@ -50,7 +50,8 @@ fn harm(rng: &mut Rng, draft: &mut Draft) {
             let place = if rng.once_in(2) { to } else { length };
             draft.bytes.splice(place..place, copy);
         }
-        10 => {
+        10 => bad_text(rng, bytes),
+        11 => {
             // One block moved behind the last.
             let (from, to) = some_block(rng, draft);
             let moved: Vec<u8> = draft.bytes.drain(from..to).collect();
@@ -61,6 +62,19 @@ fn harm(rng: &mut Rng, draft: &mut Draft) {
             let new = rng.bytes(many);
             bytes.extend(new);
         }
+    }
+}
+
+/// Puts a byte that stands in no text into one.
+fn bad_text(rng: &mut Rng, bytes: &mut [u8]) {
+    let mut places = Vec::new();
+    for block in image::blocks(bytes) {
+        for text in image::texts(&bytes[block.clone()]) {
+            places.extend(text.map(|at| block.start + at));
+        }
+    }
+    if !places.is_empty() {
+        bytes[rng.pick(&places)] = rng.pick(&[0xC0, 0xFF]);
     }
 }
 

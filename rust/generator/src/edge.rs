@@ -1,21 +1,27 @@
 //! Volumes at the edges of what sizes and numbers allow.
 
+mod bad_text;
+
 use crate::draft::{self, Draft, File};
 use crate::image::{self, Extent, Stat, COUNTED, LIMIT, REPEATED};
 use crate::number::FULL;
 use crate::rng::Rng;
+use crate::texts::Fault;
 use crate::{time, Expected, Mark};
 
 const TOP: u64 = u64::MAX;
 
 /// How many kinds of edges there are. The last [`LARGE`] have 16 MiB.
 pub const COUNT: u64 = SMALL + LARGE;
-pub const SMALL: u64 = 46;
+pub const SMALL: u64 = BAD_TEXT + bad_text::COUNT;
 pub const LARGE: u64 = 4;
 
 /// The sample volume, and the same with a damaged checksum.
 const SAMPLE: u64 = 44;
 const DAMAGED_SAMPLE: u64 = 45;
+
+/// The first of those with a text at fault, or nearly so.
+const BAD_TEXT: u64 = 46;
 
 /// The volume of one kind, and the verdict on it where it is known.
 pub fn edge(rng: &mut Rng, kind: u64) -> (Draft, Expected) {
@@ -203,40 +209,42 @@ pub fn edge(rng: &mut Rng, kind: u64) -> (Draft, Expected) {
             draft.bytes[103] ^= 1;
             (draft, refused(5, 80, 0))
         }
-        46 | 47 => {
+        BAD_TEXT..SMALL => bad_text::edge(rng, kind - BAD_TEXT),
+        _ => large(rng, kind - SMALL),
+    }
+}
+
+/// A volume as long as one may be, or a byte longer.
+fn large(rng: &mut Rng, which: u64) -> (Draft, Expected) {
+    let mut draft = Draft::new(rng, 0);
+    match which {
+        0 | 1 => {
             // One data block up to the last byte, and one byte more.
-            let mut draft = Draft::new(rng, 0);
-            let more = (kind - 46) as usize;
-            let payload = vec![rng.word() as u8; LIMIT - 101 + more];
+            let payload = vec![rng.word() as u8; LIMIT - 101 + which as usize];
             draft.push_timed(7, &image::data(7, &payload));
-            let expected = if more == 0 {
-                Expected::Accepted
-            } else {
-                refused(1, 0, 0)
-            };
-            (draft, expected)
         }
-        48 => {
-            // A file at the very end.
-            let mut draft = Draft::new(rng, 0);
+        _ => {
+            // A file at the very end, and one byte behind it.
             let list = vec![extent(97, 3, REPEATED, 3, 1, 1, 4)];
             let payload = vec![0; LIMIT - 80 - 21 - 75 - 57];
             draft.push_timed(7, &image::data(7, &payload));
             draft.file(rng, 8, 14, list);
-            (draft, Expected::Accepted)
-        }
-        _ => {
-            // The same file with one byte behind it.
-            let (mut draft, _) = edge(rng, 48);
-            draft.bytes.push(6);
-            (draft, refused(1, 0, 0))
+            draft.bytes.extend(vec![6; which as usize - 2]);
         }
     }
+    let is_over = which % 2 == 1;
+    let expected = if is_over {
+        refused(1, 0, 0)
+    } else {
+        Expected::Accepted
+    };
+    (draft, expected)
 }
 
 fn refused(number: u64, offset: u64, blocks: u64) -> Expected {
     Expected::Refused {
         number,
+        fault: Fault::default(),
         offset,
         blocks,
     }

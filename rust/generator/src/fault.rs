@@ -1,9 +1,12 @@
 //! Volumes made to be refused with one number, at a known place.
 
+mod inside;
+
 use crate::draft::{self, Draft, File};
 use crate::image::{self, Stat, LIMIT};
 use crate::rng::Rng;
-use crate::{extents, text, time};
+use crate::texts::Fault;
+use crate::{extents, time};
 
 const TOP: u64 = u64::MAX;
 
@@ -14,6 +17,8 @@ pub const OF_A_VOLUME: [u64; 14] = [1, 2, 3, 4, 5, 6, 7, 8, 9, 10, 11, 12, 13, 1
 pub struct Planned {
     pub draft: Draft,
     pub number: u64,
+    /// The text at fault, if the number is 10; else its numbers are 0.
+    pub fault: Fault,
     pub offset: u64,
     pub blocks: u64,
 }
@@ -31,6 +36,7 @@ pub fn planned(rng: &mut Rng, number: u64) -> Planned {
         Planned {
             draft: header_fault(rng, number),
             number,
+            fault: Fault::default(),
             offset: 0,
             blocks: 0,
         }
@@ -87,16 +93,6 @@ fn spoil(rng: &mut Rng, image: &mut [u8]) {
     image[end..].copy_from_slice(&wrong.to_le_bytes());
 }
 
-/// What is to be wrong inside a block.
-#[derive(Clone, Copy)]
-struct Wrong {
-    text: bool,
-    field: bool,
-    overlap: bool,
-    twice: bool,
-    time: bool,
-}
-
 fn block_fault(rng: &mut Rng, number: u64) -> Planned {
     let in_table = match number {
         13 => true,
@@ -122,6 +118,7 @@ fn block_fault(rng: &mut Rng, number: u64) -> Planned {
     let offset = draft.offset();
     let blocks = draft.places.len() as u64;
     let mut closed = true;
+    let mut fault = Fault::default();
     match number {
         7 => {
             let image = unknown(rng);
@@ -143,8 +140,9 @@ fn block_fault(rng: &mut Rng, number: u64) -> Planned {
             closed = false;
         }
         _ => {
-            let image = wrong_inside(rng, &mut draft, number, in_table);
+            let (image, told) = inside::wrong_inside(rng, &mut draft, number, in_table);
             draft.push(&image);
+            fault = told;
         }
     }
     if closed && rng.once_in(2) {
@@ -154,6 +152,7 @@ fn block_fault(rng: &mut Rng, number: u64) -> Planned {
     Planned {
         draft,
         number,
+        fault,
         offset,
         blocks,
     }
@@ -333,182 +332,4 @@ fn stating_more(rng: &mut Rng, time: u64) -> Vec<u8> {
     image[at..at + field.len()].copy_from_slice(&field);
     image::reseal(&mut image);
     image
-}
-
-/// A whole block with something wrong in it, its checksum among that.
-fn wrong_inside(rng: &mut Rng, draft: &mut Draft, number: u64, in_table: bool) -> Vec<u8> {
-    let also = |rng: &mut Rng, fault: u64| number == fault || number < fault && rng.once_in(3);
-    let wrong = Wrong {
-        text: also(rng, 10),
-        field: also(rng, 11),
-        overlap: also(rng, 12),
-        twice: also(rng, 13),
-        time: also(rng, 14),
-    };
-    let mut image = if in_table {
-        table_with(rng, wrong)
-    } else {
-        block_with(rng, draft, number, wrong)
-    };
-    if number == 5 {
-        if rng.once_in(3) {
-            flip_contents(rng, &mut image);
-        } else {
-            spoil(rng, &mut image);
-        }
-    }
-    image
-}
-
-/// Changes one bit that is not part of a length, a count, a mode or the ID.
-fn flip_contents(rng: &mut Rng, image: &mut [u8]) {
-    let at = match image[0] {
-        image::INODE => rng.between(9, 16),
-        image::TABLE => {
-            let end = image.len() as u64;
-            if end > 13 {
-                rng.between(9, 24)
-            } else {
-                rng.between(9, 12)
-            }
-        }
-        _ => rng.between(1, 8),
-    };
-    image[at as usize] ^= 1 << rng.below(8);
-}
-
-fn table_with(rng: &mut Rng, wrong: Wrong) -> Vec<u8> {
-    let mut links = draft::links(rng);
-    if wrong.twice {
-        let (parent, name) = (rng.number(), text::sound(rng, 65_535));
-        for _ in 0..2 {
-            links.push(image::table_link(rng.number(), parent, &name));
-        }
-    }
-    if wrong.text {
-        let name = text::broken(rng, 65_535);
-        links.push(image::table_link(rng.number(), rng.number(), &name));
-    }
-    rng.shuffle(&mut links);
-    image::table(links.len() as u64, &links.concat())
-}
-
-/// A block of a kind that can have the fault of this number. Faults that
-/// this kind cannot have are left out.
-fn block_with(rng: &mut Rng, draft: &mut Draft, number: u64, wrong: Wrong) -> Vec<u8> {
-    let time = wished_time(rng, draft, wrong.time);
-    let kinds: &[u8] = match number {
-        10 => &[9, 2, 3, 4, 5, 7],
-        11 => &[1, 1, 9, 10],
-        12 => &[1],
-        _ => &[1, 9, 10, 2, 3, 4, 5, 6, 7],
-    };
-    let name = |rng: &mut Rng, most: usize| {
-        if wrong.text {
-            text::broken(rng, most)
-        } else {
-            text::sound(rng, most)
-        }
-    };
-    match rng.pick(kinds) {
-        1 => file_with(rng, draft, time, wrong),
-        9 => {
-            let target = name(rng, 70_000);
-            let n = target.len() as u64;
-            let size = if wrong.field {
-                rng.pick(&[n, 69 + n, 71 + n, 70u64.wrapping_sub(n), 0, TOP])
-            } else {
-                70 + n
-            };
-            // A size that happens to be right is made wrong.
-            let size = if wrong.field && size == 70 + n {
-                71 + n
-            } else {
-                size
-            };
-            let stat = Stat {
-                mode: 0xA000 | rng.below(4_096) as u16,
-                ..draft::any_stat(rng, time, size)
-            };
-            image::inode(&stat, &target)
-        }
-        10 => {
-            let (size, variable) = match rng.below(3) {
-                _ if !wrong.field => (70, Vec::new()),
-                0 => (rng.pick(&[0, 69, 71, TOP]), Vec::new()),
-                1 => (70, rng.bytes(1)),
-                _ => (71, b"x".to_vec()),
-            };
-            let stat = Stat {
-                mode: draft::other_mode(rng),
-                ..draft::any_stat(rng, time, size)
-            };
-            image::inode(&stat, &variable)
-        }
-        4 => {
-            let name = name(rng, 255);
-            let length = rng.index(9);
-            image::xattr(time, rng.number(), &name, &rng.bytes(length))
-        }
-        5 => {
-            let name = name(rng, 255);
-            image::removed(time, rng.number(), &name)
-        }
-        6 => {
-            let length = rng.index(30);
-            image::data(time, &rng.bytes(length))
-        }
-        7 => {
-            if wrong.text && rng.once_in(4) {
-                // A character torn between the two paths.
-                return image::rename(time, b"a\xc3", b"\xa4");
-            }
-            let both = rng.below(3);
-            let old = if both == 1 {
-                text::sound(rng, 99)
-            } else {
-                name(rng, 99)
-            };
-            let new = if both == 2 {
-                text::sound(rng, 99)
-            } else {
-                name(rng, 99)
-            };
-            image::rename(time, &old, &new)
-        }
-        id => {
-            let name = name(rng, 65_535);
-            image::link(id, time, rng.number(), rng.number(), &name)
-        }
-    }
-}
-
-/// A regular file with broken or overlapping extents.
-fn file_with(rng: &mut Rng, draft: &mut Draft, time: u64, wrong: Wrong) -> Vec<u8> {
-    let mut list = if wrong.overlap {
-        extents::overlapping(rng)
-    } else {
-        extents::sound(rng).0
-    };
-    let mut bytes = image::extent_bytes(&list);
-    if wrong.field {
-        if list.is_empty() || rng.once_in(3) {
-            let length = rng.pick(&[1, 8, 56, 58, 113, 58_367]);
-            bytes = rng.bytes(length);
-        } else {
-            extents::break_one(rng, &mut list);
-            bytes = image::extent_bytes(&list);
-        }
-    }
-    let size = draft::any_size(rng, 40);
-    let stat = Stat {
-        mode: 0x8000 | rng.below(4_096) as u16,
-        ..draft::any_stat(rng, time, size)
-    };
-    draft.files.push(File {
-        offset: draft.offset(),
-        size,
-        extents: list,
-    });
-    image::inode(&stat, &bytes)
 }

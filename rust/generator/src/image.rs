@@ -231,11 +231,50 @@ pub fn mend(volume: &mut [u8]) {
         return;
     }
     reseal(&mut volume[..80]);
+    for block in blocks(volume) {
+        reseal(&mut volume[block]);
+    }
+}
+
+/// Where the blocks stand that can be measured, one after another, up to the
+/// first that cannot.
+pub fn blocks(volume: &[u8]) -> Vec<Range<usize>> {
+    let mut list = Vec::new();
     let mut at = 80;
-    while let Some(length) = measured(&volume[at..]) {
-        reseal(&mut volume[at..at + length]);
+    while let Some(length) = volume.get(at..).and_then(measured) {
+        list.push(at..at + length);
         at += length;
     }
+    list
+}
+
+/// Where the texts of a block stand that is there in full, in the order of
+/// its layout. The value of an attribute is no text, nor are an inode's bytes
+/// unless they are a target.
+pub fn texts(block: &[u8]) -> Vec<Range<usize>> {
+    let end = block.len() - 4;
+    let length = |at: usize| usize::from(u16::from_le_bytes([block[at], block[at + 1]]));
+    let mut list = Vec::new();
+    match block[0] {
+        INODE if block[18] >> 4 == 10 => list.push(71..end),
+        LINK | UNLINK => list.push(27..end),
+        XATTR => list.push(20..20 + usize::from(block[17])),
+        REMOVED => list.push(18..end),
+        RENAME => {
+            let middle = 13 + length(9);
+            list.extend([13..middle, middle..end]);
+        }
+        TABLE => {
+            let mut at = 9;
+            while at < end {
+                let name = at + 18;
+                at = name + length(name - 2);
+                list.push(name..at);
+            }
+        }
+        _ => {}
+    }
+    list
 }
 
 /// The length of the block at the front, if it is there in full.

@@ -18,12 +18,14 @@ pub mod number;
 mod question;
 pub mod rng;
 pub mod text;
+pub mod texts;
 pub mod time;
 
 use std::fmt::Write;
 
 use draft::Draft;
 use rng::Rng;
+use texts::Fault;
 
 /// A made-up or true bookmark.
 #[derive(Clone, Copy, Debug, PartialEq, Eq)]
@@ -42,6 +44,8 @@ pub enum Expected {
     Accepted,
     Refused {
         number: u64,
+        /// The text at fault, if the number is 10; else its numbers are 0.
+        fault: Fault,
         offset: u64,
         blocks: u64,
     },
@@ -85,7 +89,11 @@ pub fn case(seed: u64) -> Case {
             at_edge(seed, rng, kind)
         }
         81..=430 => {
-            let number = rng.pick(&fault::OF_A_VOLUME[1..]);
+            // A text has so many ways to be at fault that it is planned more often.
+            let number = match rng.below(6) {
+                0 => 10,
+                _ => rng.pick(&fault::OF_A_VOLUME[1..]),
+            };
             by_plan(seed, rng, number)
         }
         431..=680 => {
@@ -121,6 +129,7 @@ fn by_plan(seed: u64, mut rng: Rng, number: u64) -> Case {
     let planned = fault::planned(&mut rng, number);
     let expected = Expected::Refused {
         number,
+        fault: planned.fault,
         offset: planned.offset,
         blocks: planned.blocks,
     };

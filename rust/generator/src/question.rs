@@ -3,7 +3,7 @@
 use crate::draft::Draft;
 use crate::image::Extent;
 use crate::rng::Rng;
-use crate::{number, time, Case, Mark};
+use crate::{number, time, Case, Expected, Mark};
 
 const TOP: u64 = u64::MAX;
 
@@ -12,6 +12,8 @@ pub fn ask(rng: &mut Rng, case: &mut Case, draft: &Draft) {
     let large = draft.bytes.len() > 1 << 20;
     case.lengths = lengths(rng, draft);
     case.inode_offsets = offsets(rng, draft, if large { 3 } else { 6 });
+    // A text at fault is told before the block's kind is, so it is asked for too.
+    case.inode_offsets.extend(bad_text(case));
     let extents: Vec<Extent> = draft.files.iter().flat_map(|f| f.extents.clone()).collect();
     let points = points(rng, draft, &extents);
     case.positions = points
@@ -28,6 +30,7 @@ pub fn ask(rng: &mut Rng, case: &mut Case, draft: &Draft) {
         _ => rng.index(300),
     };
     case.bookmarks = bookmarks(rng, draft, if large { 3 } else { 8 });
+    case.bookmarks.extend(at_bad_text(rng, case, draft));
     case.other = other(rng, draft, large);
     case.fetches = fetches(rng, draft, case);
 }
@@ -89,6 +92,16 @@ fn offsets(rng: &mut Rng, draft: &Draft, most: usize) -> Vec<u64> {
     }
     list.push(odd_offset(rng, draft));
     list
+}
+
+/// Where the block is that must be refused for a text, if one is.
+fn bad_text(case: &Case) -> Option<u64> {
+    match case.expected {
+        Expected::Refused {
+            number: 10, offset, ..
+        } => Some(offset),
+        _ => None,
+    }
 }
 
 /// An offset that has little to do with the blocks.
@@ -178,6 +191,23 @@ fn bookmarks(rng: &mut Rng, draft: &Draft, most: usize) -> Vec<Mark> {
         });
     }
     list
+}
+
+/// Bookmarks at a text at fault, which is told before a lower time and before
+/// a number that cannot be counted on.
+fn at_bad_text(rng: &mut Rng, case: &Case, draft: &Draft) -> Vec<Mark> {
+    let Some(offset) = bad_text(case) else {
+        return Vec::new();
+    };
+    let due = offset == 80 && draft.sequence > 0;
+    let mark = |last, number| Mark {
+        offset,
+        due,
+        last,
+        number,
+    };
+    let number = number::made_up(rng);
+    vec![mark(None, number), mark(Some(TOP), number::FULL)]
 }
 
 /// The bookmarks of a reading, each with the time that its last time is

@@ -26,7 +26,9 @@ fn fits(kind: Kind, faults: &[SetFault]) -> bool {
         Kind::Whole | Kind::Gaps | Kind::Far => faults.is_empty(),
         Kind::Foreign => of(|fault| matches!(fault, SetFault::Foreign { .. })),
         Kind::Double => of(|fault| matches!(fault, SetFault::Double { .. })) && faults.len() == 1,
-        Kind::Damaged => of(|fault| matches!(fault, SetFault::Refused { .. })) && faults.len() == 1,
+        Kind::Damaged | Kind::NotText => {
+            of(|fault| matches!(fault, SetFault::Refused { .. })) && faults.len() == 1
+        }
     }
 }
 
@@ -202,7 +204,7 @@ fn sets_agree_with_lookups() {
             let file = match set.file(number) {
                 Ok(file) => file,
                 Err(refusal) => {
-                    assert_eq!(at(0).err(), refusal.number(), "{}", describe(&archive));
+                    assert_eq!(at(0).err(), refusal.refusal(), "{}", describe(&archive));
                     continue;
                 }
             };

@@ -3,11 +3,11 @@
 
 mod common;
 
-use common::bookmark;
+use common::{bookmark, number};
 use generator::number::FULL;
 use generator::{case, describe, edges, Case, Expected};
-use independent::refusal::{Refusal, LARGEST};
-use independent::{check, fetch, lookup, read, runs, Place, Reading, Verdict};
+use independent::refusal::LARGEST;
+use independent::{check, fetch, lookup, read, runs, Place, Reading, Refusal, Verdict};
 
 const SEEDS: u64 = 20_000;
 
@@ -31,31 +31,27 @@ struct Counts {
     some_runs: u64,
 }
 
-fn number<T>(answer: &Result<T, Refusal>) -> usize {
-    *answer.as_ref().err().unwrap_or(&0) as usize
-}
-
 impl Counts {
     fn add(&mut self, case: &Case) {
         let volume = &case.volume;
         let verdict = check(volume);
         let refusal = match verdict {
             Verdict::Accepted { .. } => 0,
-            Verdict::Refused { number, .. } => number,
+            Verdict::Refused { refusal, .. } => refusal.number,
         };
         self.check[refusal as usize] += 1;
         compare(case, verdict);
 
         for mark in &case.bookmarks {
             let answer = read(volume, bookmark(mark));
-            self.read[number(&answer)] += 1;
-            self.full[number(&answer)] += u64::from(mark.number == FULL);
+            self.read[number(&answer) as usize] += 1;
+            self.full[number(&answer) as usize] += u64::from(mark.number == FULL);
             self.ends += u64::from(answer == Ok(Reading::End));
         }
         for &offset in &case.inode_offsets {
             for &position in &case.positions {
                 let answer = lookup(volume, offset, &case.lengths, position);
-                self.lookup[number(&answer)] += 1;
+                self.lookup[number(&answer) as usize] += 1;
                 match answer {
                     Ok(Place::Hole) => self.holes += 1,
                     Ok(Place::Stored { .. }) => self.stored += 1,
@@ -66,7 +62,7 @@ impl Counts {
             for &(from, to) in &case.ranges {
                 let mut out = vec![3; case.room];
                 let answer = runs(volume, offset, &case.lengths, from, to, &mut out);
-                self.runs[number(&answer)] += 1;
+                self.runs[number(&answer) as usize] += 1;
                 self.some_runs += u64::from(matches!(answer, Ok(1..)));
                 if answer.is_err() {
                     assert!(out.iter().all(|&n| n == 3), "{}", describe(case));
@@ -75,7 +71,7 @@ impl Counts {
         }
         for &(volume_number, offset, length) in &case.fetches {
             let answer = fetch(volume, &case.other, volume_number, offset, length);
-            self.fetch[number(&answer)] += 1;
+            self.fetch[number(&answer) as usize] += 1;
         }
     }
 
@@ -106,12 +102,18 @@ fn compare(case: &Case, verdict: Verdict) {
         Expected::Accepted => matches!(verdict, Verdict::Accepted { .. }),
         Expected::Refused {
             number,
+            fault,
             offset,
             blocks,
         } => {
+            let refusal = Refusal {
+                number,
+                text: fault.text,
+                start: fault.start,
+            };
             verdict
                 == Verdict::Refused {
-                    number,
+                    refusal,
                     offset,
                     blocks,
                 }

@@ -1,10 +1,10 @@
 //! The inputs of the benchmarks are what they claim to be.
 
 use generator::bench::{
-    archive, archive_extent, archive_volume, copies, inodes, inputs, lengths, Order, COPIED,
-    COPIES, COPIES_OFFSET,
+    archive, archive_extent, archive_volume, copies, inodes, inputs, last_names, lengths, Order,
+    COPIED, COPIES, COPIES_OFFSET,
 };
-use independent::{check, lookup, read_header, run_count, Place, Verdict, VOLUME_LIMIT};
+use independent::{check, lookup, read_header, run_count, Place, Refusal, Verdict, VOLUME_LIMIT};
 
 #[test]
 fn all_are_accepted_and_full() {
@@ -17,6 +17,35 @@ fn all_are_accepted_and_full() {
             input.name
         );
     }
+}
+
+/// Each has one byte at fault, in its last name, and its checksum is right.
+#[test]
+fn only_the_last_name_is_at_fault() {
+    let mut names = Vec::new();
+    for input in last_names() {
+        assert_eq!(input.sound.len(), VOLUME_LIMIT, "{}", input.name);
+        let sound = check(&input.sound);
+        let Verdict::Accepted { blocks, .. } = sound else {
+            panic!("{} {sound:?}", input.name);
+        };
+        let Verdict::Refused {
+            refusal,
+            offset,
+            blocks: before,
+        } = check(&input.bad)
+        else {
+            panic!("{} is accepted", input.name);
+        };
+        let told = Refusal::not_text(input.fault.text, input.fault.start);
+        assert_eq!((refusal, offset), (told, input.offset));
+        let pairs = input.sound.iter().zip(&input.bad);
+        assert!(pairs.filter(|(one, two)| one != two).count() <= 1 + 4);
+        names.push((blocks, before, input.fault.text, input.fault.start));
+    }
+    // A data block stands before the links, and another one behind the table.
+    let expected = [(167_772, 167_771, 0, 68), (2, 0, 4_095, 4_076)];
+    assert_eq!(names, expected);
 }
 
 #[test]

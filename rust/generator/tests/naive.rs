@@ -3,7 +3,7 @@
 use generator::image::{self, Extent, COUNTED, REPEATED};
 use generator::rng::Rng;
 use generator::{case, describe};
-use independent::{check, lookup, run_count, runs, Place, Verdict};
+use independent::{check, lookup, run_count, runs, Place, Refusal, Verdict};
 
 fn number(bytes: &[u8], at: usize, width: usize) -> u64 {
     let field = bytes[at..at + width].iter().rev();
@@ -85,14 +85,14 @@ fn lookups() {
             for &position in &case.positions {
                 let answer = lookup(&case.volume, offset, lengths, position);
                 if !lengths.len().is_multiple_of(8) || lengths.len() > 8 * 4_096 {
-                    assert_eq!(answer, Err(9), "{}", describe(&case));
+                    assert_eq!(answer, Err(Refusal::of(9)), "{}", describe(&case));
                 }
-                if !matches!(answer, Ok(_) | Err(16)) {
+                if answer.is_err_and(|refusal| refusal != Refusal::of(16)) {
                     continue;
                 }
                 let (size, list) = file_at(&case.volume, offset);
                 let expected = match holder(&list, position) {
-                    _ if !all_there(&list, lengths) => Err(16),
+                    _ if !all_there(&list, lengths) => Err(Refusal::of(16)),
                     _ if position >= size => Ok(Place::PastEnd),
                     None => Ok(Place::Hole),
                     Some((which, _, offset)) => Ok(Place::Stored {
@@ -149,7 +149,7 @@ fn ranges() {
                 assert_eq!(ask(&mut out), Ok(count as u64));
                 assert_eq!(out.split_off(5 * count), [7; 3]);
                 if count > 0 {
-                    assert_eq!(ask(&mut vec![7; 5 * count - 1]), Err(17));
+                    assert_eq!(ask(&mut vec![7; 5 * count - 1]), Err(Refusal::of(17)));
                 }
                 let (size, list) = file_at(&case.volume, offset);
                 let to = to.min(size);
@@ -215,8 +215,8 @@ fn overlaps() {
         draft.file(&mut rng, 1, 9, list);
         match check(&draft.bytes) {
             Verdict::Accepted { .. } => assert!(!meets),
-            Verdict::Refused { number, .. } => {
-                assert_eq!(number, 12);
+            Verdict::Refused { refusal, .. } => {
+                assert_eq!(refusal, Refusal::of(12));
                 assert!(meets);
                 refused += 1;
             }
@@ -247,8 +247,8 @@ fn links_twice() {
         draft.push(&image::table(many, &links));
         match check(&draft.bytes) {
             Verdict::Accepted { .. } => assert!(!meets),
-            Verdict::Refused { number, .. } => {
-                assert_eq!(number, 13);
+            Verdict::Refused { refusal, .. } => {
+                assert_eq!(refusal, Refusal::of(13));
                 assert!(meets);
                 refused += 1;
             }
@@ -274,8 +274,11 @@ fn times() {
             Verdict::Accepted { end, .. } => {
                 assert_eq!((falls, end.last), (None, list.last().copied()));
             }
-            Verdict::Refused { number, blocks, .. } => {
-                assert_eq!((number, Some(blocks as usize)), (14, falls));
+            Verdict::Refused {
+                refusal, blocks, ..
+            } => {
+                assert_eq!(refusal, Refusal::of(14));
+                assert_eq!(Some(blocks as usize), falls);
                 refused += 1;
             }
         }

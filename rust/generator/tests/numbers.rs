@@ -3,7 +3,7 @@
 
 mod common;
 
-use common::{bookmark, Found, KINDS};
+use common::{bookmark, number, Found, KINDS};
 use generator::number::FULL;
 use generator::{case, describe, edge, edges, Case};
 use independent::{check, read, read_header, Block, Bookmark, Reading, Refusal, Verdict};
@@ -18,13 +18,13 @@ fn renumbered(free: Answer<'_>, number: u64) -> Answer<'_> {
     let Ok(Reading::Block(block, next)) = free else {
         return free;
     };
-    let after = number.checked_add(1).ok_or(9u64)?;
+    let after = number.checked_add(1).ok_or(Refusal::of(9))?;
     let block = Block { number, ..block };
     Ok(Reading::Block(block, next.numbered(after)))
 }
 
 /// What is told before the largest number, by itself.
-const BEFORE: [(&str, Refusal); 11] = [
+const BEFORE: [(&str, u64); 11] = [
     ("1 first", 1),
     ("2 first", 2),
     ("5 first", 5),
@@ -51,14 +51,15 @@ impl Found {
     /// counted there.
     fn full(&mut self, volume: &[u8], mark: Bookmark, free: Answer<'_>) {
         self.note("the end", free == Ok(Reading::End));
+        let told = number(&free);
         for (name, number) in BEFORE {
-            self.note(name, free == Err(number));
+            self.note(name, told == number);
         }
         let (below, beyond) = (mark.offset < 80, mark.offset > volume.len() as u64);
-        self.note("8 below the header", free == Err(8) && below);
-        self.note("8 with a table due", free == Err(8) && !below && mark.due);
-        self.note("8 with none due", free == Err(8) && !below && !mark.due);
-        self.note("2 beyond the end", free == Err(2) && beyond);
+        self.note("8 below the header", told == 8 && below);
+        self.note("8 with a table due", told == 8 && !below && mark.due);
+        self.note("8 with none due", told == 8 && !below && !mark.due);
+        self.note("2 beyond the end", told == 2 && beyond);
         for (place, name) in KINDS.into_iter().enumerate() {
             let is_kind = |block: &Block<'_>| usize::from(block.id) == place + 1;
             let is_so = matches!(free, Ok(Reading::Block(block, _)) if is_kind(&block));

@@ -76,7 +76,8 @@ fn rewrite(case: &Case, blocks: u64, buffer: &mut [u8]) -> Bookmark {
         let (from, to) = (block.offset as usize, next.offset as usize);
         let image = &volume[from..to];
         let kept = buffer.to_vec();
-        assert_eq!(append_raw(&mut buffer[..to - 1], mark, image), Err(17));
+        let cramped = append_raw(&mut buffer[..to - 1], mark, image);
+        assert_eq!(cramped, Err(Refusal::of(17)));
         assert!(buffer == kept);
         let answer = append_raw(&mut buffer[..to], mark, image);
         assert_eq!(answer, Ok(next), "{}", describe(case));
@@ -111,6 +112,7 @@ fn faulty_blocks_are_not_written() {
         let case = case(seed);
         let Expected::Refused {
             number: number @ 10..=14,
+            fault,
             offset,
             blocks,
         } = case.expected
@@ -123,9 +125,14 @@ fn faulty_blocks_are_not_written() {
         let image = first_block(&case.volume[offset as usize..]);
         let kept = buffer.clone();
         let answer = append_raw(&mut buffer, mark, image);
-        assert_eq!(answer, Err(number), "{}", describe(&case));
+        let refusal = Refusal {
+            number,
+            text: fault.text,
+            start: fault.start,
+        };
+        assert_eq!(answer, Err(refusal), "{}", describe(&case));
         let full = append_raw(&mut buffer, mark.numbered(FULL), image);
-        assert_eq!(full, Err(9), "{}", describe(&case));
+        assert_eq!(full, Err(Refusal::of(9)), "{}", describe(&case));
         assert!(buffer == kept);
         seen[number as usize] += 1;
     }
@@ -144,9 +151,9 @@ fn at_the_last_numbers(case: &Case, mark: Bookmark, next: Bookmark) {
         due: !full.due,
         ..full
     };
-    for (mark, refusal) in [(full, 9), (misplaced, 8)] {
+    for (mark, number) in [(full, 9), (misplaced, 8)] {
         let answer = append_raw(&mut buffer, mark, image);
-        assert_eq!(answer, Err(refusal), "{}", describe(case));
+        assert_eq!(answer, Err(Refusal::of(number)), "{}", describe(case));
         assert!(buffer.iter().all(|&byte| byte == 0xEE));
     }
     let answer = append_raw(&mut buffer, mark.numbered(FULL - 1), image);

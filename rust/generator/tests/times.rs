@@ -136,7 +136,7 @@ fn bookmarks(case: &Case, found: &mut Found) {
             continue;
         };
         let (answer, by) = read_on(&case.volume, mark);
-        let lower = (time < last).then_some(14);
+        let lower = (time < last).then_some(Refusal::of(14));
         let told = (answer.err(), by.last);
         assert_eq!(told, (lower, Some(last)), "{}", describe(case));
         let names = if mark.due {

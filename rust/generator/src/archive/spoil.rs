@@ -48,6 +48,35 @@ pub fn damage(rng: &mut Rng, volumes: &mut [Vec<u8>]) {
     }
 }
 
+/// Puts one to three bytes that stand in no text into the texts of one block,
+/// whose checksum is right again then. Where no volume has a text, one is
+/// damaged.
+pub fn bad_text(rng: &mut Rng, volumes: &mut [Vec<u8>]) {
+    let mut blocks = Vec::new();
+    for (place, volume) in volumes.iter().enumerate() {
+        for block in image::blocks(volume) {
+            let texts = image::texts(&volume[block.clone()]);
+            if texts.iter().any(|text| !text.is_empty()) {
+                blocks.push((place, block, texts));
+            }
+        }
+    }
+    if blocks.is_empty() {
+        return damage(rng, volumes);
+    }
+    let has_several = |texts: &Vec<_>| texts.len() > 1;
+    if rng.once_in(2) && blocks.iter().any(|(_, _, texts)| has_several(texts)) {
+        blocks.retain(|(_, _, texts)| has_several(texts));
+    }
+    let (place, block, texts) = blocks.swap_remove(rng.index(blocks.len()));
+    let image = &mut volumes[place][block];
+    let bytes: Vec<usize> = texts.into_iter().flatten().collect();
+    for _ in 0..rng.between(1, 3) {
+        image[rng.pick(&bytes)] = 0xFF;
+    }
+    image::reseal(image);
+}
+
 fn any<'a>(rng: &mut Rng, volumes: &'a mut [Vec<u8>]) -> &'a mut Vec<u8> {
     let place = rng.index(volumes.len());
     &mut volumes[place]

@@ -4,7 +4,7 @@
 use std::collections::BTreeMap;
 
 use generator::Mark;
-use independent::Bookmark;
+use independent::{Bookmark, Refusal};
 
 /// Kinds of blocks, by their IDs from 1 on. Only the last has no time.
 pub const KINDS: [&str; 8] = [
@@ -26,6 +26,11 @@ pub fn bookmark(mark: &Mark) -> Bookmark {
         last: mark.last,
         number: mark.number,
     }
+}
+
+/// The number of a refusal, 0 for none.
+pub fn number<T>(answer: &Result<T, Refusal>) -> u64 {
+    answer.as_ref().err().map_or(0, |refusal| refusal.number)
 }
 
 /// How often something is found.
