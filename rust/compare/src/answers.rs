@@ -3,15 +3,39 @@
 use hdrfs::sys;
 use independent::{Block, Body, Bookmark, Header, Part, Place, Reading, Refusal, Verdict};
 
-/// The answer of this type that is a refusal, beside which all is 0.
+/// The answer of this type that is a refusal, beside whose three numbers all is 0.
 macro_rules! refused {
     ($answer:ident, $refusal:expr) => {
         sys::$answer {
-            refusal: $refusal,
+            refusal: $refusal.number,
+            text: $refusal.text,
+            start: $refusal.start,
             ..Default::default()
         }
     };
 }
+
+/// An answer that may be a refusal.
+pub trait Told {
+    /// The three numbers of the refusal, which are 0 where nothing is refused.
+    fn told(&self) -> Refusal;
+}
+
+macro_rules! told {
+    ($($answer:ident)*) => {$(
+        impl Told for sys::$answer {
+            fn told(&self) -> Refusal {
+                Refusal {
+                    number: self.refusal,
+                    text: self.text,
+                    start: self.start,
+                }
+            }
+        }
+    )*};
+}
+
+told! { Checked Heading Block Place RunCount Source Written }
 
 /// The answer of a check. Beside a refusal only the offset and the number of blocks stay.
 #[must_use]
@@ -30,13 +54,13 @@ pub fn checked(verdict: &Verdict) -> sys::Checked {
             ..Default::default()
         },
         Verdict::Refused {
-            number,
+            refusal,
             offset,
             blocks,
         } => sys::Checked {
             blocks,
             offset,
-            ..refused!(Checked, number)
+            ..refused!(Checked, refusal)
         },
     }
 }
@@ -66,7 +90,7 @@ pub fn reading(answer: &Result<Reading<'_>, Refusal>) -> sys::Block {
             end: 1,
             ..Default::default()
         },
-        Err(refusal) => refused!(Block, *refusal),
+        Err(refusal) => refused!(Block, refusal),
     }
 }
 

@@ -3,12 +3,14 @@
 use generator::number::FULL;
 use generator::{Case, Expected, Mark};
 use hdrfs::sys;
-use independent::{Bookmark, Reading};
+use independent::{Bookmark, Reading, Refusal};
 
+use crate::answers::Told;
 use crate::difference::{same, Difference};
 use crate::files::Inode;
 use crate::items::{self, Asked};
-use crate::tally::Tally;
+use crate::tally::{Call, Tally};
+use crate::texts::Texts;
 use crate::{blocks, fetching, links, steps, volume};
 
 /// Compares every number of every answer.
@@ -26,7 +28,7 @@ pub fn compare(case: &Case, tally: &mut Tally) -> Result<(), Difference> {
     }
     for &asked in &case.fetches {
         let refusal = fetching::fetch(&case.volume, &case.other, asked)?;
-        tally.fetch[refusal as usize] += 1;
+        tally.fetch[refusal.number as usize] += 1;
     }
     Ok(())
 }
@@ -36,8 +38,9 @@ fn whole(case: &Case, tally: &mut Tally) -> Result<(), Difference> {
     let bytes = &case.volume;
     let checked = volume::check(bytes)?;
     tally.check[checked.refusal as usize] += 1;
-    tally.header[volume::header(bytes)? as usize] += 1;
-    tally.header[volume::header(&case.other)? as usize] += 1;
+    tally.note_text(Call::Check, checked.told());
+    tally.header[volume::header(bytes)?.number as usize] += 1;
+    tally.header[volume::header(&case.other)?.number as usize] += 1;
     as_made(case, &checked)?;
     let walked = blocks::walk(bytes)?;
     same(walked.blocks, checked.blocks, || {
@@ -49,15 +52,26 @@ fn whole(case: &Case, tally: &mut Tally) -> Result<(), Difference> {
 
 /// Where the making of the case fixes the verdict, it must be given.
 fn as_made(case: &Case, checked: &sys::Checked) -> Result<(), Difference> {
-    let given = (checked.refusal, checked.offset, checked.blocks);
+    let given = (checked.told(), checked.offset, checked.blocks);
     let made = match case.expected {
         Expected::Unknown => given,
-        Expected::Accepted => (0, case.volume.len() as u64, checked.blocks),
+        Expected::Accepted => {
+            let end = case.volume.len() as u64;
+            (Refusal::of(0), end, checked.blocks)
+        }
         Expected::Refused {
             number,
+            fault,
             offset,
             blocks,
-        } => (number, offset, blocks),
+        } => {
+            let refusal = Refusal {
+                number,
+                text: fault.text,
+                start: fault.start,
+            };
+            (refusal, offset, blocks)
+        }
     };
     same(given, made, || {
         "check against the making of the case".into()
@@ -110,6 +124,7 @@ fn reading(
 ) -> Result<sys::Block, Difference> {
     let block = blocks::read(volume, mark, odd)?;
     tally.read[block.refusal as usize] += 1;
+    tally.note_text(Call::Read, block.told());
     if mark.number == FULL {
         tally.full[block.refusal as usize] += 1;
         let free = independent::read(volume, mark.numbered(0));
@@ -124,6 +139,7 @@ fn positions(case: &Case, inode: &Inode<'_>, tally: &mut Tally) -> Result<(), Di
     for &position in &case.positions {
         let placed = inode.lookup(position)?;
         tally.lookup[placed.refusal as usize] += 1;
+        tally.note_text(Call::Lookup, placed.told());
         if placed.refusal == 0 {
             tally.kinds[placed.kind as usize] += 1;
         }
@@ -134,33 +150,40 @@ fn positions(case: &Case, inode: &Inode<'_>, tally: &mut Tally) -> Result<(), Di
 fn ranges(case: &Case, inode: &Inode<'_>, tally: &mut Tally) -> Result<(), Difference> {
     for &(from, to) in &case.ranges {
         let refusal = inode.runs(from, to, case.room)?;
-        tally.runs[refusal as usize] += 1;
+        tally.runs[refusal.number as usize] += 1;
+        tally.note_text(Call::Runs, refusal);
         for refusal in inode.runs_at_the_edge(from, to)? {
-            tally.runs[refusal as usize] += 1;
+            tally.runs[refusal.number as usize] += 1;
         }
     }
     Ok(())
 }
 
+/// What was compared of the calls that give Rust types.
+#[derive(Clone, Copy, Debug, Default)]
+pub struct Typed {
+    pub runs: u64,
+    /// Texts at fault, of the check alone.
+    pub texts: Texts,
+}
+
 /// The same questions to the calls that give Rust types, with at most so many runs of each range.
-/// Answers how many runs were compared.
-pub fn typed(case: &Case, most: u64) -> Result<u64, Difference> {
-    volume::typed(&case.volume)?;
+pub fn typed(case: &Case, most: u64, typed: &mut Typed) -> Result<(), Difference> {
+    typed.texts.note(volume::typed(&case.volume)?);
     steps::blocks(&case.volume)?;
     for mark in &case.bookmarks {
         steps::blocks_at(&case.volume, bookmark(mark))?;
     }
     items::first_positions(&case.volume, &case.lengths)?;
-    let mut runs = 0;
     for &offset in &case.inode_offsets {
         let asked = Asked::new(&case.volume, offset, &case.lengths, most);
         for &position in &case.positions {
             items::position(&asked, position)?;
         }
-        runs += asked.all_runs()?;
+        typed.runs += asked.all_runs()? as u64;
         for &(from, to) in &case.ranges {
-            runs += asked.runs(from, to)?;
+            typed.runs += asked.runs(from, to)? as u64;
         }
     }
-    Ok(runs as u64)
+    Ok(())
 }

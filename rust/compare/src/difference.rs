@@ -2,6 +2,8 @@
 
 use std::fmt::{self, Debug};
 
+use independent::Refusal;
+
 /// Something that the two answer differently.
 #[derive(Debug)]
 pub struct Difference {
@@ -10,8 +12,8 @@ pub struct Difference {
     independent: String,
 }
 
-/// The refusal number that both gave, 0 for none.
-pub type Answer = Result<u64, Difference>;
+/// The refusal that both gave; its number is 0 for none.
+pub type Answer = Result<Refusal, Difference>;
 
 impl Difference {
     /// Says what the question is about.

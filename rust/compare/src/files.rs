@@ -1,8 +1,9 @@
 //! Positions and ranges of files.
 
 use hdrfs::sys;
+use independent::Refusal;
 
-use crate::answers;
+use crate::answers::{self, Told};
 use crate::difference::{same, same_list, Answer, Difference};
 use crate::lent::Lent;
 
@@ -17,15 +18,9 @@ pub struct Inode<'a> {
     pub lengths: &'a [u8],
 }
 
-/// What is counted about one position: the refusal number and the kind.
-pub struct Placed {
-    pub refusal: u64,
-    pub kind: u64,
-}
-
 impl Inode<'_> {
-    /// One position, in one call and in four.
-    pub fn lookup(&self, position: u64) -> Result<Placed, Difference> {
+    /// One position, in one call and in six. Answers what both gave.
+    pub fn lookup(&self, position: u64) -> Result<sys::Place, Difference> {
         let &Inode {
             volume,
             offset,
@@ -38,15 +33,14 @@ impl Inode<'_> {
         same(proved, expected, question)?;
         let split = sys::Place {
             refusal: sys::lookup_refusal(volume, offset, lengths, position),
+            text: sys::lookup_text(volume, offset, lengths, position),
+            start: sys::lookup_start(volume, offset, lengths, position),
             kind: sys::lookup_kind(volume, offset, lengths, position),
             volume: sys::lookup_volume(volume, offset, lengths, position),
             offset: sys::lookup_offset(volume, offset, lengths, position),
         };
-        same(split, expected, || question() + " in four calls")?;
-        Ok(Placed {
-            refusal: expected.refusal,
-            kind: expected.kind,
-        })
+        same(split, expected, || question() + " in six calls")?;
+        Ok(expected)
     }
 
     /// The runs of a range, in a list with room for so many numbers.
@@ -60,7 +54,7 @@ impl Inode<'_> {
         same_list(proved.first(filled), second.first(filled), question)?;
         let kept = (proved.kept_beyond(filled), second.kept_beyond(filled));
         same(kept, (true, true), || question() + ", the rest is kept")?;
-        Ok(expected.refusal)
+        Ok(expected.told())
     }
 
     fn ask_proved(&self, from: u64, to: u64, out: &mut Lent) -> sys::RunCount {
@@ -74,18 +68,22 @@ impl Inode<'_> {
         answers::run_count(answer)
     }
 
-    /// The same with just enough room and with one number less. Answers the refusal numbers.
-    pub fn runs_at_the_edge(&self, from: u64, to: u64) -> Result<Vec<u64>, Difference> {
+    /// The same with just enough room and with one number less. Answers the refusals.
+    pub fn runs_at_the_edge(&self, from: u64, to: u64) -> Result<Vec<Refusal>, Difference> {
         let count = independent::run_count(self.volume, self.offset, self.lengths, from, to);
         let Ok(count @ ..=MOST_RUNS) = count else {
             return Ok(Vec::new());
         };
         let enough = 5 * count as usize;
         let mut seen = vec![self.runs(from, to, enough)?];
-        same(seen[0], 0, || format!("{from} to {to}, enough room"))?;
+        same(seen[0], Refusal::of(0), || {
+            format!("{from} to {to}, enough room")
+        })?;
         if let Some(less) = enough.checked_sub(1) {
             seen.push(self.runs(from, to, less)?);
-            same(seen[1], 17, || format!("{from} to {to}, too little room"))?;
+            same(seen[1], Refusal::of(17), || {
+                format!("{from} to {to}, too little room")
+            })?;
         }
         Ok(seen)
     }

@@ -3,6 +3,7 @@
 use hdrfs::{File, Lengths, Logical, Refusal, Run, Runs, Volume};
 
 use crate::difference::{same, same_list, Difference};
+use crate::volume::typed_refusal;
 
 /// A file for both sides.
 pub struct Asked<'a> {
@@ -43,9 +44,8 @@ impl<'a> Asked<'a> {
     fn compare(&self, runs: Runs<'_>, from: u64, to: u64) -> Result<usize, Difference> {
         let question = || format!("iterator from {from} to {to} at {}", self.offset);
         match self.expected(from, to) {
-            Err(number) => {
-                let offset = self.offset;
-                let only = [Err(Refusal::new(number, offset))];
+            Err(refusal) => {
+                let only = [Err(typed_refusal(refusal, self.offset))];
                 same_list(&runs.collect::<Vec<_>>(), &only, question)?;
                 Ok(0)
             }
@@ -113,7 +113,7 @@ pub fn position(asked: &Asked<'_>, position: u64) -> Result<(), Difference> {
     let lengths = asked.lengths.as_bytes();
     let expected = independent::lookup(asked.volume, asked.offset, lengths, position);
     let offset = asked.offset;
-    let refused = |number| Refusal::new(number, offset);
+    let refused = |refusal| typed_refusal(refusal, offset);
     same(place, expected.map(placed).map_err(refused), || {
         format!("File::position {position} at {offset}")
     })
@@ -126,7 +126,7 @@ pub fn first_positions(volume: &[u8], lengths: &[u8]) -> Result<(), Difference> 
     for block in Volume::blocks(volume).flatten() {
         let place = File::of_block(volume, &block, &lengths).position(Logical(0));
         let expected = independent::lookup(volume, block.offset, lengths.as_bytes(), 0);
-        let refused = |number| Refusal::new(number, block.offset).with_block(Some(block.number));
+        let refused = |refusal| typed_refusal(refusal, block.offset).with_block(Some(block.number));
         same(place, expected.map(placed).map_err(refused), || {
             format!("File::of_block {} at {}", block.number, block.offset)
         })?;

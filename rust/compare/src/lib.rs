@@ -1,7 +1,7 @@
 //! Compares the proved library with the independent implementation, value by value.
 //!
-//! Each function asks both the same question. It answers what both gave, often the refusal number
-//! alone (0 for none), or the [`Difference`] between them. [`case::compare`] asks all questions of one case.
+//! Each function asks both the same question. It answers what both gave, often the refusal alone (with
+//! number 0 for none), or the [`Difference`] between them. [`case::compare`] asks all questions of one case.
 //!
 //! The tests take cases from seeds. `HDRFS_SEEDS=N` sets how many seeds there are, and
 //! `HDRFS_FIRST=K` the first of them, so that a long run need not repeat an earlier one:
@@ -15,8 +15,9 @@
 //! the tests of `hdrfs-command`.
 //!
 //! A case that differs is printed with its seed and its bytes; `HDRFS_SEEDS=1 HDRFS_FIRST=<seed>`
-//! compares it alone. The tests also fail if a refusal number that can occur was not compared, but
-//! only where there are at least as many seeds as without `HDRFS_SEEDS`.
+//! compares it alone. The tests also fail if a refusal number that can occur was not compared, or if
+//! too few refusals say of a text which one is at fault and where, but only where there are at least
+//! as many seeds as without `HDRFS_SEEDS`.
 #![forbid(unsafe_code)]
 
 pub mod answers;
@@ -35,6 +36,7 @@ pub mod seeds;
 pub mod small;
 pub mod steps;
 pub mod tally;
+pub mod texts;
 pub mod volume;
 pub mod writing;
 

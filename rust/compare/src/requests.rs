@@ -46,6 +46,38 @@ impl Request {
         }
     }
 
+    /// Its texts, in the order of the layout.
+    fn texts_mut(&mut self) -> Vec<&mut [u8]> {
+        match self {
+            Request::Inode(stat, target) if stat.is_symbolic_link() => vec![target],
+            Request::Inode(..) | Request::Data(..) => Vec::new(),
+            Request::Link(_, _, name)
+            | Request::Unlink(_, _, name)
+            | Request::Xattr(_, _, name, _)
+            | Request::RemovedXattr(_, _, name) => vec![name],
+            Request::Rename(_, old, new) => vec![old, new],
+            Request::Table(_, links) => names_mut(links),
+        }
+    }
+
+    /// How many texts it has, and which of them are at fault.
+    #[must_use]
+    pub fn faulty(&self) -> (usize, Vec<usize>) {
+        let mut copy = self.clone();
+        let texts = copy.texts_mut();
+        let is_bad = |place: &usize| str::from_utf8(texts[*place]).is_err();
+        (texts.len(), (0..texts.len()).filter(is_bad).collect())
+    }
+
+    /// Puts another text of its length in place of each that is at fault.
+    pub fn mend_texts(&mut self) {
+        for text in self.texts_mut() {
+            if str::from_utf8(text).is_err() {
+                text.fill(b'x');
+            }
+        }
+    }
+
     /// The time that it asks for; a table has none.
     pub fn time_mut(&mut self) -> Option<&mut u64> {
         match self {
@@ -61,6 +93,20 @@ impl Request {
     }
 }
 
+/// The names of links; of bytes that are cut, those of the whole links at their front.
+fn names_mut(mut links: &mut [u8]) -> Vec<&mut [u8]> {
+    let mut names = Vec::new();
+    while let Some(&[low, high]) = links.get(16..18).and_then(|field| field.first_chunk()) {
+        let end = 18 + usize::from(u16::from_le_bytes([low, high]));
+        let Some((link, rest)) = links.split_at_mut_checked(end) else {
+            break;
+        };
+        names.push(&mut link[18..]);
+        links = rest;
+    }
+    names
+}
+
 /// Modes of a regular file, a symbolic link, a folder, and of no known type.
 const MODES: [u16; 4] = [0x81A4, 0xA1FF, 0x41ED, 0x0000];
 
@@ -74,7 +120,7 @@ pub fn request(rng: &mut Rng) -> Request {
         3 => Request::Xattr(time, number, name(rng, 255), value(rng)),
         4 => Request::RemovedXattr(time, number, name(rng, 255)),
         5 => Request::Data(time, value(rng)),
-        6 => Request::Rename(time, name(rng, 65_535), name(rng, 65_535)),
+        6 => rename(rng, time),
         _ => table(rng),
     }
 }
@@ -82,11 +128,31 @@ pub fn request(rng: &mut Rng) -> Request {
 /// Mostly a short text; now and then one at fault, as long as its field allows, or longer.
 fn name(rng: &mut Rng, most: usize) -> Vec<u8> {
     match rng.below(24) {
-        0 => text::broken(rng, 40),
-        1 => vec![b'n'; most],
-        2 => vec![b'n'; most + 1],
+        0 | 1 => broken(rng, most),
+        2 => vec![b'n'; most],
+        3 => {
+            let mut name = vec![b'n'; most + 1];
+            if rng.once_in(2) {
+                name[rng.index(most + 1)] = 0xFF;
+            }
+            name
+        }
         _ => text::sound(rng, 40),
     }
+}
+
+/// A text at fault, mostly a short one.
+fn broken(rng: &mut Rng, most: usize) -> Vec<u8> {
+    let most = if rng.once_in(8) { most } else { 40 };
+    text::broken(rng, most).bytes
+}
+
+/// Two paths. Now and then both are at fault, and then the first decides.
+fn rename(rng: &mut Rng, time: u64) -> Request {
+    if rng.once_in(12) {
+        return Request::Rename(time, broken(rng, 65_535), broken(rng, 65_535));
+    }
+    Request::Rename(time, name(rng, 65_535), name(rng, 65_535))
 }
 
 fn value(rng: &mut Rng) -> Vec<u8> {
@@ -144,7 +210,24 @@ fn list(rng: &mut Rng) -> (Vec<u8>, u64) {
     (bytes, size)
 }
 
-/// Links, with their number or another, whole or cut, and now and then two that are the same.
+/// Puts names at fault among the others, one or several, now and then the same twice.
+fn break_names(rng: &mut Rng, names: &mut Vec<(u64, Vec<u8>)>) {
+    let again = broken(rng, 65_535);
+    let many = rng.pick(&[1, 1, 2, 3]);
+    for _ in 0..many {
+        let end = names.len();
+        let any = rng.index(end + 1);
+        let place = rng.pick(&[0, end, any]);
+        let name = match rng.below(3) {
+            0 => again.clone(),
+            _ => text::broken(rng, 12).bytes,
+        };
+        names.insert(place, (9, name));
+    }
+}
+
+/// Links, with their number or another, whole or cut, and now and then two that are the same. Names
+/// may be at fault, one or several, anywhere.
 fn table(rng: &mut Rng) -> Request {
     let mut names: Vec<(u64, Vec<u8>)> = Vec::new();
     for _ in 0..rng.below(6) {
@@ -155,8 +238,8 @@ fn table(rng: &mut Rng) -> Request {
     if rng.once_in(8) && !names.is_empty() {
         names.push(names[rng.index(names.len())].clone());
     }
-    if rng.once_in(12) {
-        names.push((9, text::broken(rng, 12)));
+    if rng.once_in(4) {
+        break_names(rng, &mut names);
     }
     let mut count = names.len() as u64;
     let mut bytes: Vec<u8> = Vec::new();

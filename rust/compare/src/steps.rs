@@ -5,7 +5,7 @@ use independent::links::{Link, Links};
 use independent::{Block, Body, Bookmark, Part, Reading, Stat};
 
 use crate::difference::{same_list, Difference};
-use crate::volume::bookmark;
+use crate::volume::{bookmark, typed_refusal};
 
 /// A block and the next bookmark, or a refusal.
 type Step<'a> = Result<(Block<'a>, Bookmark), Refusal>;
@@ -14,7 +14,7 @@ type Step<'a> = Result<(Block<'a>, Bookmark), Refusal>;
 pub fn blocks(volume: &[u8]) -> Result<(), Difference> {
     let expected = match independent::read_header(volume) {
         Ok(header) => expected(volume, header.next),
-        Err(number) => vec![Err(Refusal::new(number, 0))],
+        Err(refusal) => vec![Err(typed_refusal(refusal, 0))],
     };
     let proved = steps(volume, Volume::blocks(volume));
     same_list(&proved, &expected, || "Volume::blocks".into())?;
@@ -54,8 +54,8 @@ fn expected(volume: &[u8], mut mark: Bookmark) -> Vec<Step<'_>> {
                 steps.push(Ok((block, next)));
                 mark = next;
             }
-            Err(number) => {
-                let refusal = Refusal::new(number, mark.offset);
+            Err(refusal) => {
+                let refusal = typed_refusal(refusal, mark.offset);
                 steps.push(Err(refusal.with_block(Some(mark.number))));
                 return steps;
             }

@@ -1,6 +1,9 @@
 //! How often each answer was compared.
 
 use independent::refusal::LARGEST;
+use independent::Refusal;
+
+use crate::texts::{Texts, FEW};
 
 /// One count for each refusal number; 0 stands for no refusal.
 pub type Numbers = [u64; LARGEST + 1];
@@ -14,6 +17,19 @@ pub const LAST: [&str; 3] = [
     "the end behind it",
     "9 behind it",
 ];
+
+/// The calls that can refuse a text.
+#[derive(Clone, Copy, Debug, PartialEq, Eq)]
+pub enum Call {
+    Check,
+    Read,
+    Lookup,
+    Runs,
+}
+
+impl Call {
+    const ALL: [Call; 4] = [Call::Check, Call::Read, Call::Lookup, Call::Runs];
+}
 
 /// The calls, each with the refusal numbers that it can give.
 macro_rules! tally {
@@ -30,6 +46,8 @@ macro_rules! tally {
             pub uncounted: [u64; 8],
             /// Readings at the number before, and behind them, as in [`LAST`].
             pub last: [u64; 3],
+            /// Texts at fault, by [`Call`].
+            pub texts: [Texts; 4],
         }
 
         impl Tally {
@@ -40,6 +58,9 @@ macro_rules! tally {
                 add(&mut self.equal, &other.equal);
                 add(&mut self.uncounted, &other.uncounted);
                 add(&mut self.last, &other.last);
+                for (texts, other) in self.texts.iter_mut().zip(&other.texts) {
+                    texts.add(other);
+                }
             }
 
             /// The calls with what was counted of them and what can occur.
@@ -47,7 +68,7 @@ macro_rules! tally {
                 vec![$((stringify!($call), &self.$call, &$possible)),*]
             }
 
-            /// A tally in which everything that can occur came once.
+            /// A tally in which everything that can occur came once, and texts at fault often.
             #[cfg(test)]
             fn full() -> Tally {
                 let mut tally = Tally {
@@ -55,6 +76,7 @@ macro_rules! tally {
                     equal: [1; 3],
                     uncounted: [1; 8],
                     last: [1; 3],
+                    texts: [Texts { later: FEW, inside: FEW, both: FEW }; 4],
                     ..Tally::default()
                 };
                 $(for number in $possible {
@@ -111,7 +133,17 @@ impl Tally {
                 faults.push(format!("read: not {what}"));
             }
         }
+        for (call, texts) in Call::ALL.iter().zip(&self.texts) {
+            if texts.are_few(FEW) {
+                faults.push(format!("{call:?}: only {texts}"));
+            }
+        }
         faults
+    }
+
+    /// Counts what a call says of a text at fault.
+    pub fn note_text(&mut self, call: Call, refusal: Refusal) {
+        self.texts[call as usize].note(refusal);
     }
 
     /// A table of all counts.
@@ -136,6 +168,9 @@ impl Tally {
         for (what, count) in LAST.iter().zip(self.last) {
             text += &format!("\n{what}: {count}");
         }
+        for (call, texts) in Call::ALL.iter().zip(&self.texts) {
+            text += &format!("\n{call:?}: {texts}");
+        }
         text
     }
 }
@@ -148,7 +183,7 @@ fn add<const N: usize>(sum: &mut [u64; N], other: &[u64; N]) {
 
 #[cfg(test)]
 mod tests {
-    use super::{Tally, LARGEST};
+    use super::{Call, Tally, LARGEST};
     use hdrfs::Refusal;
 
     /// The proved library has words for the number, and for none above it.
@@ -168,12 +203,14 @@ mod tests {
         less.full[9] = 0;
         less.uncounted[7] = 0;
         less.last[1] = 0;
+        less.texts[Call::Lookup as usize].both -= 1;
         let missing = [
             "full: answer 9 came 0 times",
             "runs: answer 17 came 0 times",
             "read: no equal time behind a table",
             "read: no block 8 that cannot be counted",
             "read: not the end behind it",
+            "Lookup: only 100 later texts, 100 inside one, 99 both",
         ];
         assert_eq!(less.faults(), missing);
         let mut more = Tally::full();
@@ -181,7 +218,7 @@ mod tests {
         assert_eq!(more.faults(), ["lookup: answer 18 came 3 times"]);
         assert_eq!(
             Tally::default().faults().len(),
-            15 + 7 + 12 + 12 + 12 + 13 + 8 + 3 + 3 + 8 + 3
+            15 + 7 + 12 + 12 + 12 + 13 + 8 + 3 + 3 + 8 + 3 + 4
         );
     }
 }

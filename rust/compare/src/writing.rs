@@ -5,31 +5,40 @@ use generator::{number, time};
 use hdrfs::sys::{self, Written};
 use independent::{self as plain, Bookmark, Refusal};
 
-use crate::answers;
+use crate::answers::{self, Told};
 use crate::difference::{same, same_list, Answer};
 use crate::requests::Request;
 
-/// Appends with both to copies of the buffer, and leaves in it what both wrote. Answers the number
-/// and the bookmark after the block, or the same bookmark where the block is refused.
+/// Appends with both to copies of the buffer, and leaves in it what both wrote. Answers the refusal,
+/// whose number is 0 for none, and the bookmark after the block, or the same bookmark where the block
+/// is refused.
 pub fn append(
     buffer: &mut [u8],
     mark: Bookmark,
     request: &Request,
-) -> Result<(u64, Bookmark), crate::Difference> {
+) -> Result<(Refusal, Bookmark), crate::Difference> {
     let mut other = buffer.to_vec();
     let expected = independently(&mut other, mark, request);
     let written = proved(buffer, mark, request);
     let question = || format!("append of {request:?} at {mark:?}");
     same(written, answers::written(expected), question)?;
     same_list(buffer, &other, question)?;
-    Ok((written.refusal, expected.unwrap_or(mark)))
+    Ok((written.told(), expected.unwrap_or(mark)))
 }
 
 /// What the independent implementation would refuse the append with if no block were before the
 /// bookmark; 0 for nothing.
 pub fn refusal_from_0(buffer: &[u8], mark: Bookmark, request: &Request) -> u64 {
     let answer = independently(&mut buffer.to_vec(), mark.numbered(0), request);
-    answer.err().unwrap_or(0)
+    answer.err().map_or(0, |refusal| refusal.number)
+}
+
+/// The same if each text at fault were another one of its length.
+pub fn refusal_with_sound_texts(buffer: &[u8], mark: Bookmark, request: &Request) -> u64 {
+    let mut request = request.clone();
+    request.mend_texts();
+    let answer = independently(&mut buffer.to_vec(), mark, &request);
+    answer.err().map_or(0, |refusal| refusal.number)
 }
 
 /// Writes a header with both.
@@ -40,7 +49,7 @@ pub fn header(buffer: &mut [u8], id: &[u8], sequence: u64, previous: &[u8]) -> A
     let question = || format!("header {sequence}, {id:?}, {previous:?}");
     same(written, answers::written(expected), question)?;
     same_list(buffer, &other, question)?;
-    Ok(written.refusal)
+    Ok(written.told())
 }
 
 /// A bookmark that no call handed out. Its last time is often near the time that is asked for.

@@ -9,10 +9,12 @@ use compare::archives::folder::Folder;
 use compare::archives::opening::{self, Both};
 use compare::archives::{facts, places};
 use compare::seeds::{Seeds, USUAL};
+use compare::texts::Texts;
 use compare::Difference;
 use generator::archive::{archive, describe, Archive, Kind};
 use generator::rng::Rng;
 use hdrfs::ArchiveError;
+use independent::{set_faults, SetFault};
 
 /// One archive for so many of the seeds that are asked for.
 const BYTES: u64 = 5;
@@ -24,6 +26,8 @@ struct Tally {
     kinds: BTreeMap<Kind, u64>,
     inodes: u64,
     files: Counts,
+    /// Volumes that are refused for a text.
+    texts: Texts,
 }
 
 impl Tally {
@@ -34,9 +38,18 @@ impl Tally {
         opened: Result<hdrfs::Archive, ArchiveError>,
     ) -> Result<(), Difference> {
         *self.kinds.entry(archive.kind).or_default() += 1;
+        self.note_texts(archive);
         match opening::compare(archive, opened)? {
             Some(both) => self.contents(archive, &both),
             None => Ok(()),
+        }
+    }
+
+    /// Counts what the one volume at fault says of a text. Where several are at fault, any may be told.
+    fn note_texts(&mut self, archive: &Archive) {
+        let lent: Vec<&[u8]> = archive.volumes.iter().map(Vec::as_slice).collect();
+        if let [SetFault::Refused { refusal, .. }] = set_faults(&lent)[..] {
+            self.texts.note(refusal);
         }
     }
 
@@ -66,6 +79,12 @@ where
     });
     let tallies = tallies.unwrap_or_else(|told| panic!("{told}"));
     report(&tallies, asked.count >= USUAL);
+    let mut texts = Texts::default();
+    tallies.iter().for_each(|tally| texts.add(&tally.texts));
+    println!("{texts}");
+    // One set in ten is refused for a text, and of these one in four for a later one.
+    let least = seeds.count / 100;
+    assert!(asked.count < USUAL || !texts.are_few(least), "{texts}");
 }
 
 fn report(tallies: &[Tally], enough: bool) {

@@ -1,12 +1,17 @@
 //! Every change of one byte and every cut of small sound volumes.
 #![forbid(unsafe_code)]
 
+use std::ops::Range;
+
+use compare::answers::Told;
 use compare::files::Inode;
 use compare::seeds::Seeds;
 use compare::tally::Numbers;
+use compare::texts::Texts;
 use compare::{small, volume, Difference};
 use generator::draft::Draft;
 use generator::image;
+use independent::Refusal;
 
 /// How many volumes there are.
 const VOLUMES: Seeds = Seeds {
@@ -97,6 +102,50 @@ fn every_changed_byte_with_mended_checksums() {
     }
 }
 
+/// Every other value of every byte of every text of some volumes.
+#[test]
+fn every_changed_byte_of_a_text() {
+    let seeds = Seeds {
+        count: 6,
+        ..VOLUMES
+    };
+    let counts = seeds.each(|number, texts: &mut Texts| {
+        let draft = small::volume(number);
+        for block in image::blocks(&draft.bytes) {
+            for text in image::texts(&draft.bytes[block.clone()]) {
+                for at in text {
+                    each_value(&draft.bytes, &block, at, texts)?;
+                }
+            }
+        }
+        Ok(())
+    });
+    let mut sum = Texts::default();
+    for texts in counts.unwrap_or_else(|told| panic!("{told}")) {
+        sum.add(&texts);
+    }
+    println!("{sum}");
+    assert!(!sum.are_few(1_000), "{sum}");
+}
+
+/// Compares the check of a volume with each other value of one byte of a block, whose checksum is
+/// right again.
+fn each_value(
+    volume: &[u8],
+    block: &Range<usize>,
+    at: usize,
+    texts: &mut Texts,
+) -> Result<(), String> {
+    for by in 1..=255 {
+        let mut bytes = volume.to_vec();
+        bytes[block.start + at] ^= by;
+        image::reseal(&mut bytes[block.clone()]);
+        let checked = volume::check(&bytes).map_err(|difference| told(difference, &bytes))?;
+        texts.note(checked.told());
+    }
+    Ok(())
+}
+
 #[test]
 fn every_cut() {
     let counts = each_volume(|draft, counts| {
@@ -123,7 +172,7 @@ fn every_changed_byte_of_a_file() {
                 lengths: &lengths,
             };
             for refusal in file(&inode).map_err(|difference| told(difference, &bytes))? {
-                counts[refusal as usize] += 1;
+                counts[refusal.number as usize] += 1;
             }
         }
         Ok(())
@@ -133,11 +182,11 @@ fn every_changed_byte_of_a_file() {
     }
 }
 
-/// Some positions and ranges of a file, and the refusal numbers they gave.
-fn file(inode: &Inode<'_>) -> Result<Vec<u64>, Difference> {
+/// Some positions and ranges of a file, and the refusals they gave.
+fn file(inode: &Inode<'_>) -> Result<Vec<Refusal>, Difference> {
     let mut seen = Vec::new();
     for position in [0, 2, 10, 15, 24, 33] {
-        seen.push(inode.lookup(position)?.refusal);
+        seen.push(inode.lookup(position)?.told());
     }
     for (from, to) in [(0, u64::MAX), (5, 17)] {
         seen.push(inode.runs(from, to, 62)?);

@@ -6,13 +6,14 @@ use compare::blocks;
 use compare::requests::{request, Request};
 use compare::seeds::{Seeds, USUAL};
 use compare::tally::Numbers;
-use compare::writing::{append, header, made_up, refusal_from_0};
+use compare::texts::{Texts, FEW};
+use compare::writing::{append, header, made_up, refusal_from_0, refusal_with_sound_texts};
 use generator::number::FULL;
 use generator::rng::Rng;
 use generator::time;
 use hdrfs::sys;
 use independent::refusal::LARGEST;
-use independent::Bookmark;
+use independent::{Bookmark, Refusal};
 
 /// The numbers that an append can give, and those that the header writer can.
 const APPEND: [usize; 10] = [0, 1, 8, 9, 10, 11, 12, 13, 14, 17];
@@ -32,7 +33,25 @@ struct Counts {
     instead: Numbers,
     /// Lists with blocks up to the largest number.
     filled: u64,
+    /// Texts at fault, by the kind of request, and which of them are, as in [`PLACES`].
+    texts: [Texts; 8],
+    places: [u64; 7],
+    /// What was told of a request with a text at fault, and what would have been told in place of 10
+    /// if all texts were sound.
+    faulty: Numbers,
+    sound: Numbers,
 }
+
+/// Which texts are at fault where an append is refused for one.
+const PLACES: [&str; 7] = [
+    "the old path",
+    "the new path",
+    "both paths",
+    "the first of several links",
+    "the last of several links",
+    "a link between",
+    "several links",
+];
 
 impl Counts {
     fn note(&mut self, kind: usize, mark: Bookmark, time: Option<u64>, number: u64) {
@@ -43,6 +62,26 @@ impl Counts {
         self.equal[kind] += u64::from(number == 0 && time == last);
         let one_lower = time.checked_add(1) == Some(last);
         self.one_lower[kind] += u64::from(number == 14 && one_lower);
+    }
+
+    /// Notes an append that is refused for a text; nothing was written to the buffer.
+    fn note_text(&mut self, buffer: &[u8], mark: Bookmark, asked: &Request, refusal: Refusal) {
+        self.texts[asked.kind()].note(refusal);
+        self.sound[refusal_with_sound_texts(buffer, mark, asked) as usize] += 1;
+        let (texts, faulty) = asked.faulty();
+        let is_between = faulty[0] > 0 && faulty[0] + 1 < texts;
+        let place = match asked {
+            Request::Rename(..) if faulty == [0] => 0,
+            Request::Rename(..) if faulty == [1] => 1,
+            Request::Rename(..) => 2,
+            Request::Table(..) if faulty.len() > 1 => 6,
+            Request::Table(..) if texts == 1 => return,
+            Request::Table(..) if faulty == [0] => 3,
+            Request::Table(..) if !is_between => 4,
+            Request::Table(..) => 5,
+            _ => return,
+        };
+        self.places[place] += 1;
     }
 
     /// Notes an answer at the largest number; nothing was written to the buffer.
@@ -75,8 +114,8 @@ fn headers(rng: &mut Rng, counts: &mut Counts) -> Result<(), String> {
         previous.fill(0);
     }
     let sequence = rng.below(2);
-    let number = header(&mut buffer, &id, sequence, &previous).map_err(|d| d.to_string())?;
-    counts.header[number as usize] += 1;
+    let refusal = header(&mut buffer, &id, sequence, &previous).map_err(|d| d.to_string())?;
+    counts.header[refusal.number as usize] += 1;
     Ok(())
 }
 
@@ -89,8 +128,16 @@ fn ask(
     asked: &mut Request,
 ) -> Result<Bookmark, String> {
     let time = asked.time_mut().copied();
-    let (number, next) = append(buffer, mark, asked).map_err(|d| d.to_string())?;
+    let (refusal, next) = append(buffer, mark, asked).map_err(|d| d.to_string())?;
+    let number = refusal.number;
     counts.note(kind, mark, time, number);
+    let (_, faulty) = asked.faulty();
+    if !faulty.is_empty() {
+        counts.faulty[number as usize] += 1;
+    }
+    if number == 10 {
+        counts.note_text(buffer, mark, asked, refusal);
+    }
     if mark.number == FULL {
         counts.note_full(buffer, mark, asked, number);
     }
@@ -164,6 +211,60 @@ fn appends_agree() {
         assert!(equal > 1_000 && one_lower > 1_000 || !enough, "{name}");
     }
     report_full(&counted, enough);
+    report_texts(&counted, enough);
+}
+
+/// Every kind with texts was refused for one, in every place, and before all that comes after.
+fn report_texts(counted: &[Counts], enough: bool) {
+    for (kind, name) in Request::KINDS.into_iter().enumerate() {
+        let mut texts = Texts::default();
+        counted
+            .iter()
+            .for_each(|counts| texts.add(&counts.texts[kind]));
+        println!("texts: {name}, {texts}");
+        let has_several = ["rename", "table"].contains(&name);
+        let is_few = match name {
+            "data" => texts != Texts::default(),
+            _ => texts.inside < FEW || has_several && texts.are_few(FEW),
+        };
+        assert!(!is_few || !enough, "{name}: {texts}");
+    }
+    for (place, name) in PLACES.into_iter().enumerate() {
+        let count = sum(counted, |counts| counts.places[place]);
+        println!("texts: {name}, {count}");
+        assert!(count >= FEW || !enough, "{name}: {count}");
+    }
+    // A wrong place, a limit and wrong link bytes come before a text, all else comes after.
+    reached(
+        counted,
+        enough,
+        "a text at fault",
+        &[8, 9, 10, 11],
+        |counts| &counts.faulty,
+    );
+    let after = [0, 1, 11, 13, 14, 17];
+    reached(counted, enough, "10 in place of it", &after, |counts| {
+        &counts.sound
+    });
+}
+
+/// Fails unless exactly these numbers came.
+fn reached(
+    counted: &[Counts],
+    enough: bool,
+    what: &str,
+    numbers: &[usize],
+    of: impl Fn(&Counts) -> &Numbers,
+) {
+    for number in 0..=LARGEST {
+        let count = sum(counted, |counts| of(counts)[number]);
+        let possible = numbers.contains(&number);
+        if possible {
+            println!("{number}, {what}: {count}");
+        }
+        assert!(count == 0 || possible, "{number}, {what}: {count}");
+        assert!(count > 0 || !possible || !enough, "{number}, {what}");
+    }
 }
 
 /// At the largest number a wrong place is told, and nothing else before 9.
@@ -180,16 +281,10 @@ fn report_full(counted: &[Counts], enough: bool) {
             );
         }
     }
-    for number in 0..=LARGEST {
-        let instead = sum(counted, |counts| counts.instead[number]);
-        println!("full: 9 in place of {number}: {instead}");
-        let possible = number != 8 && APPEND.contains(&number);
-        assert!(instead == 0 || possible, "9 in place of {number}");
-        assert!(
-            instead > 0 || !possible || !enough,
-            "9 in place of {number}"
-        );
-    }
+    let after: Vec<usize> = APPEND.into_iter().filter(|&number| number != 8).collect();
+    reached(counted, enough, "9 in place of it", &after, |counts| {
+        &counts.instead
+    });
     let filled = sum(counted, |counts| counts.filled);
     println!("full: {filled} lists");
     assert!(filled > 100 || !enough, "{filled} lists");

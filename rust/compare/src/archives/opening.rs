@@ -9,7 +9,8 @@ use hdrfs::{check_each, ArchiveError, Checker};
 use independent::{check, set_faults, Set, SetFault, Verdict};
 
 use crate::difference::{same, same_list, Difference};
-use crate::volume::{block_at_fault, bookmark};
+use crate::texts::which;
+use crate::volume::{block_at_fault, bookmark, plain};
 
 /// A set by both sides.
 pub struct Both<'a> {
@@ -99,7 +100,7 @@ pub fn verdicts(
                 member.block_count(),
                 bookmark(member.end()),
             )),
-            Err(error) => Err(fault(&error)),
+            Err(error) => Err(fault(archive, &error)),
         });
         ControlFlow::Continue(())
     });
@@ -114,12 +115,12 @@ pub fn verdicts(
                 end,
             } => Ok((sequence, blocks, end)),
             Verdict::Refused {
-                number,
+                refusal,
                 offset,
                 blocks,
             } => Err(Some(SetFault::Refused {
                 place,
-                number,
+                refusal,
                 offset,
                 blocks,
             })),
@@ -156,7 +157,7 @@ pub fn compare<'a>(
             Ok(None)
         }
         (Err(error), _) => {
-            let told = fault(&error);
+            let told = fault(archive, &error);
             let listed = told.filter(|fault| faults.contains(fault));
             let question = || format!("why the volumes are no set, of {faults:?}: {error}");
             same(told.is_some(), listed.is_some(), question)?;
@@ -166,9 +167,9 @@ pub fn compare<'a>(
     }
 }
 
-/// The fault of a set that an error is: none if it names another block than the one at fault. Two
-/// volumes may be named in any order.
-fn fault(error: &ArchiveError) -> Option<SetFault> {
+/// The fault of a set that an error is: none if it names another block than the one at fault, or
+/// another text. Two volumes may be named in any order.
+fn fault(archive: &Archive, error: &ArchiveError) -> Option<SetFault> {
     let pair = |first: &Path, second: &Path| {
         let (first, second) = (place(first)?, place(second)?);
         Some((first.min(second), first.max(second)))
@@ -178,12 +179,20 @@ fn fault(error: &ArchiveError) -> Option<SetFault> {
             path,
             refusal,
             blocks: Some(blocks),
-        } if refusal.block == block_at_fault(refusal.offset, *blocks) => SetFault::Refused {
-            place: place(path)?,
-            number: refusal.number,
-            offset: refusal.offset,
-            blocks: *blocks,
-        },
+            bad_text,
+        } if refusal.block == block_at_fault(refusal.offset, *blocks) => {
+            let (place, offset, told) = (place(path)?, refusal.offset, plain(*refusal));
+            let which = which(archive.volumes.get(place)?, offset, told);
+            if bad_text.map(|text| text.to_string()) != which {
+                return None;
+            }
+            SetFault::Refused {
+                place,
+                refusal: told,
+                offset,
+                blocks: *blocks,
+            }
+        }
         ArchiveError::TwoFileSystems { first, second } => {
             let (first, second) = pair(first, second)?;
             SetFault::Foreign { first, second }

@@ -6,12 +6,13 @@ use hdrfs::{ArchiveError, Missing, Refusal};
 use independent::{FileRefusal, Lacking};
 
 use super::opening::Both;
+use crate::volume::plain;
 
 /// Why a file is refused.
 #[derive(Debug, PartialEq, Eq)]
 pub(super) enum Reason {
     NoInode,
-    Number(u64),
+    Refusal(independent::Refusal),
     /// Volumes, and the extents that reach too far: index, volume, end of the volume.
     Lacks(Vec<u64>, Vec<(usize, u64, u64)>),
     Other(String),
@@ -20,7 +21,7 @@ pub(super) enum Reason {
 pub(super) fn told(refusal: &FileRefusal) -> Reason {
     match refusal {
         FileRefusal::NoInode => Reason::NoInode,
-        FileRefusal::NotRegular => Reason::Number(15),
+        FileRefusal::NotRegular => Reason::Refusal(independent::Refusal::of(15)),
         FileRefusal::NotThere(Lacking {
             volumes,
             unlisted,
@@ -46,7 +47,8 @@ pub(super) fn reason(error: &ArchiveError, asked: u64, both: &Both<'_>) -> Reaso
             path,
             refusal,
             blocks: None,
-        } if is_at(both, asked, path, refusal) => Reason::Number(refusal.number),
+            bad_text: None,
+        } if is_at(both, asked, path, refusal) => Reason::Refusal(plain(*refusal)),
         ArchiveError::Missing(Missing {
             inode,
             volumes,
