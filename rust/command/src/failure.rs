@@ -4,7 +4,7 @@ use std::fmt;
 use std::io;
 use std::path::{Path, PathBuf};
 
-use hdrfs::{ArchiveError, Missing, Refusal};
+use hdrfs::{ArchiveError, BadText, Missing, Refusal};
 
 use crate::json::Object;
 use crate::lack;
@@ -44,7 +44,8 @@ pub enum Failure {
         /// The volume that has its inode block, and the refusal.
         path: PathBuf,
         refusal: Refusal,
-        missing: Missing,
+        /// In a box, so that a failure stays small beside the answers that it stands for.
+        missing: Box<Missing>,
     },
     /// A file cannot be written.
     Unwritten { path: PathBuf, error: io::Error },
@@ -98,15 +99,18 @@ impl Failure {
         }
         match self {
             Failure::Volume(ArchiveError::Refused {
-                refusal, blocks, ..
-            }) => blocks
-                .iter()
-                .fold(members(refusal, object), |object, blocks| {
-                    object.number("blocks", *blocks)
-                }),
+                refusal,
+                blocks,
+                bad_text,
+                ..
+            }) => {
+                let object = members(refusal, *bad_text, object);
+                let add = |object: Object, blocks: &u64| object.number("blocks", *blocks);
+                blocks.iter().fold(object, add)
+            }
             Failure::Lacking {
                 refusal, missing, ..
-            } => lack::members(missing, members(refusal, object)),
+            } => lack::members(missing, members(refusal, None, object)),
             Failure::Volume(
                 ArchiveError::TwoFileSystems { first, .. } | ArchiveError::Twice { first, .. },
             ) => object
@@ -128,8 +132,17 @@ impl fmt::Display for Failure {
     }
 }
 
-/// A refusal for machines. The block is left out where the header is at fault, or none is meant.
-fn members(refusal: &Refusal, object: Object) -> Object {
+/// A refusal for people: of a text that is not UTF-8 also what it is in its block.
+fn told(refusal: &Refusal, bad_text: Option<BadText>) -> String {
+    match bad_text {
+        Some(text) => format!("{refusal}: {text}"),
+        None => refusal.to_string(),
+    }
+}
+
+/// A refusal for machines. The block is left out where the header is at fault, or none is meant; what
+/// is said of a text, where that is not what is wrong.
+fn members(refusal: &Refusal, bad_text: Option<BadText>, object: Object) -> Object {
     let object = object
         .number("refused", refusal.number)
         .number("offset", refusal.offset);
@@ -137,7 +150,14 @@ fn members(refusal: &Refusal, object: Object) -> Object {
         Some(block) => object.number("block", block),
         None => object,
     };
-    object.text("words", refusal.words())
+    let object = object.text("words", refusal.words());
+    match bad_text {
+        Some(text) => object
+            .number("text", refusal.text)
+            .number("start", refusal.start)
+            .text("which", &text.to_string()),
+        None => object,
+    }
 }
 
 /// The volume that an error is about; where it is about two, the one that was given later.
@@ -158,10 +178,16 @@ fn matter_of(error: &ArchiveError) -> String {
         ArchiveError::Io { error, .. } => format!("cannot be read: {error}"),
         ArchiveError::Refused {
             refusal,
-            blocks: Some(blocks),
+            blocks,
+            bad_text,
             ..
-        } => format!("{refusal}; {} accepted before", count(*blocks, "block")),
-        ArchiveError::Refused { refusal, .. } => refusal.to_string(),
+        } => {
+            let told = told(refusal, *bad_text);
+            match blocks {
+                Some(blocks) => format!("{told}; {} accepted before", count(*blocks, "block")),
+                None => told,
+            }
+        }
         ArchiveError::Changed { .. } => "changed while it was being read".to_string(),
         ArchiveError::TwoFileSystems { first, .. } => {
             let first = shown(first);
@@ -178,18 +204,19 @@ fn matter_of(error: &ArchiveError) -> String {
 mod tests {
     use super::*;
 
-    fn refused(refusal: Refusal, blocks: Option<u64>) -> Failure {
+    fn refused(refusal: Refusal, blocks: Option<u64>, bad_text: Option<BadText>) -> Failure {
         let path = PathBuf::from("a.vol");
         Failure::Volume(ArchiveError::Refused {
             path,
             refusal,
             blocks,
+            bad_text,
         })
     }
 
     #[test]
     fn a_refusal_is_one_line_with_words() {
-        let failure = refused(Refusal::new(3, 0), None);
+        let failure = refused(Refusal::new(3, 0), None, None);
         assert_eq!(
             failure.to_string(),
             "a.vol: refused 3 at 0: not an HDRFS volume"
@@ -200,13 +227,33 @@ mod tests {
     /// The example of the help is what would be printed.
     #[test]
     fn a_refusal_says_which_block_is_at_fault() {
-        let failure = refused(Refusal::new(5, 4711).with_block(Some(17)), Some(17));
+        let failure = refused(Refusal::new(5, 4711).with_block(Some(17)), Some(17), None);
         let line = failure.to_string();
         assert!(crate::help::general().contains(&line), "{line}");
         assert_eq!(
             failure.json(),
             "{\"file\":\"a.vol\",\"refused\":5,\"offset\":4711,\"block\":17,\
              \"words\":\"checksum wrong\",\"blocks\":17}\n"
+        );
+    }
+
+    /// The examples of the help and of the page for `man` are a part of what would be printed.
+    #[test]
+    fn a_refusal_says_which_text_is_not_utf_8() {
+        let refusal = Refusal::new(10, 80).with_block(Some(0));
+        let refusal = refusal.with_text(1, 39_999);
+        let failure = refused(refusal, Some(0), Some(BadText::NewPath));
+        let told = told(&refusal, Some(BadText::NewPath));
+        assert!(crate::help::general().contains(&told), "{told}");
+        let page = include_str!("../../../man/hdrfs.1").replace("\\-", "-");
+        assert!(page.contains(&told), "{told}");
+        let line = format!("a.vol: {told}; 0 blocks accepted before");
+        assert_eq!(failure.to_string(), line);
+        assert_eq!(
+            failure.json(),
+            "{\"file\":\"a.vol\",\"refused\":10,\"offset\":80,\"block\":0,\
+             \"words\":\"text is not UTF-8\",\"text\":1,\"start\":39999,\
+             \"which\":\"new path\",\"blocks\":0}\n"
         );
     }
 }

@@ -29,6 +29,11 @@ the block at fault, counted from 0, unless it is the header, and plain words:
 
   a.vol: refused 5 at 4711 (block 17): checksum wrong; 17 blocks accepted before
 
+Of a text that is not UTF-8 the words also say which text of the block it is, at
+which byte of it that begins, both counted from 0, and what the text is:
+
+  refused 10 at 80 (block 0): text is not UTF-8 (text 1, byte 39999): new path
+
 Exit status: 0 accepted; 1 refused; 2 wrong use, or a file that cannot be read
 or written.
 ";
@@ -51,9 +56,12 @@ are told, and are no fault.
                     the file system), previous (hash), blocks, end, and time if
                     there is a last one; or file, refused, offset, block (none
                     if the header is at fault), words and blocks (accepted
-                    before); or file and error. Of several at the end: set
-                    (true or false), and id, volumes (how many) and missing
-                    (first and last of each gap), or error
+                    before), and if a text is not UTF-8: text (its number in
+                    the block, from 0), start (the byte of it at which that
+                    begins) and which (what the text is); or file and error.
+                    Of several at the end: set (true or false), and id, volumes
+                    (how many) and missing (first and last of each gap), or
+                    error
 
 Exit status: 0 all are sound and one set; 1 some are refused, or they are no
 set; 2 wrong use, or some cannot be read.
@@ -68,8 +76,8 @@ hdrfs list FILE [--long] [--json]
 
 Lists the blocks of a volume: where each begins, the number of its kind and its
 length. The last line says where the volume ends and how many blocks it has, or
-what is refused and where; which block that is, and why, is said on standard
-error.
+what is refused and where; which block and which text of it that is, and why, is
+said on standard error.
 
   1 inode    3 unlink    5 removed xattr    7 rename
   2 link     4 xattr     6 data             8 link table
@@ -81,7 +89,8 @@ error.
   --json        an object a line: file, sequence, id and previous; for each
                 block its number (block, from 0), offset, id and length, and
                 with --long all its numbers and names; at the end, end and
-                blocks, or file, refused, offset, block, words and blocks
+                blocks, or file, refused, offset, block, words and blocks, and
+                text, start and which if a text is not UTF-8, as hdrfs check
 
 Exit status: 0 the volume is sound; 1 it is refused; 2 wrong use, or it cannot
 be read.

@@ -2,7 +2,7 @@
 
 use std::path::{Path, PathBuf};
 
-use hdrfs::{ArchiveError, Block, Bookmark, Heading, Refusal, Volume};
+use hdrfs::{ArchiveError, BadText, Block, Bookmark, Heading, Refusal, Volume};
 
 use crate::commands::Request;
 use crate::failure::{Failure, Status};
@@ -56,7 +56,14 @@ impl List {
         for block in blocks.by_ref() {
             match block {
                 Ok(block) => lines.put(&self.block_line(&block, json))?,
-                Err(refusal) => return self.refuse(lines, path, refusal, json),
+                Err(refusal) => {
+                    let bad_text = refusal.bad_text(volume);
+                    if !json {
+                        lines.put(&self.refused_line(&refusal, bad_text))?;
+                    }
+                    lines.flush()?;
+                    return Err(refused(path, refusal, bad_text));
+                }
             }
         }
         // The walk is over and nothing was refused, so that it stands at the end.
@@ -94,34 +101,27 @@ impl List {
         }
     }
 
-    /// Ends the listing with the refusal. The last line of the short form has no place for the block,
+    /// The last line of a volume that is refused. That of the short form has no place for the block,
     /// and that of neither form for the name and the words; all are said with the failure.
-    fn refuse(
-        &self,
-        mut lines: Lines,
-        path: &Path,
-        refusal: Refusal,
-        json: bool,
-    ) -> Result<Status, Failure> {
-        if !json {
-            let (number, offset) = (refusal.number, refusal.offset);
-            let block = match refusal.block {
-                Some(block) if self.long => format!(" (block {block})"),
-                _ => String::new(),
-            };
-            lines.put(&format!("refused {number} at {offset}{block}\n"))?;
-        }
-        lines.flush()?;
-        // The walk began at the header: all blocks before the one at fault were listed.
-        let blocks = Some(refusal.block.unwrap_or(0));
-        let path = path.to_path_buf();
-        Err(ArchiveError::Refused {
-            path,
-            refusal,
-            blocks,
-        }
-        .into())
+    fn refused_line(&self, refusal: &Refusal, bad_text: Option<BadText>) -> String {
+        let (number, offset) = (refusal.number, refusal.offset);
+        let more = match self.long {
+            true => long::fault(refusal, bad_text),
+            false => String::new(),
+        };
+        format!("refused {number} at {offset}{more}\n")
     }
+}
+
+fn refused(path: &Path, refusal: Refusal, bad_text: Option<BadText>) -> Failure {
+    ArchiveError::Refused {
+        path: path.to_path_buf(),
+        refusal,
+        // The walk began at the header: all blocks before the one at fault were listed.
+        blocks: Some(refusal.block.unwrap_or(0)),
+        bad_text,
+    }
+    .into()
 }
 
 const HEADING: &str = "offset id length\n";

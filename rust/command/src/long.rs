@@ -1,6 +1,6 @@
 //! The long form of a listing: what each block is about.
 
-use hdrfs::{Block, Content, FileType, Inode, Link};
+use hdrfs::{BadText, Block, Content, FileType, Inode, Link, Refusal};
 
 use crate::json::{list, Object};
 use crate::text::{count, quoted};
@@ -68,6 +68,17 @@ fn about_inode(inode: &Inode) -> String {
         _ => String::new(),
     };
     format!("inode {number}, {kind}{more}")
+}
+
+/// What is said of a refusal behind its number and offset: which block it is about, and of a text that
+/// is not UTF-8 which one that is and where.
+pub fn fault(refusal: &Refusal, bad_text: Option<BadText>) -> String {
+    let (text, start) = (refusal.text, refusal.start);
+    match (refusal.block, bad_text) {
+        (None, _) => String::new(),
+        (Some(block), None) => format!(" (block {block})"),
+        (Some(block), Some(bad)) => format!(" (block {block}, text {text}, byte {start}): {bad}"),
+    }
 }
 
 /// A block for machines.

@@ -53,6 +53,8 @@ impl Request for Runs {
                 path: file.path().to_path_buf(),
                 refusal,
                 blocks: None,
+                // All texts of a volume that was checked are UTF-8.
+                bad_text: None,
             })?;
             lines.put(&line(&run, json))?;
             if let Some(progress) = &progress {

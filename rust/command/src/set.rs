@@ -44,7 +44,7 @@ pub fn file(archive: &Archive, number: u64) -> Result<ArchiveFile<'_>, Failure> 
             Failure::Lacking {
                 path: path.unwrap_or_default(),
                 refusal: refusal.with_block(inode.map(|inode| inode.block)),
-                missing,
+                missing: Box::new(missing),
             }
         }
         other => other.into(),

@@ -1,8 +1,12 @@
 //! What the command has to say, by the independent implementation.
 
 use compare::json::Json;
+use compare::texts::which;
+use independent::refusal::NOT_TEXT;
 use independent::LENGTHS_LIMIT;
-use independent::{check, read, read_header, Inode, Lacking, Reading, Set, SetFault, Verdict};
+use independent::{
+    check, read, read_header, Inode, Lacking, Reading, Refusal, Set, SetFault, Verdict,
+};
 
 use crate::given::place;
 
@@ -39,6 +43,19 @@ fn at_fault(offset: u64, blocks: u64) -> Json {
     }
 }
 
+/// Which text of the block at an offset is at fault and where. Beside another number than 10 nothing
+/// is said of texts.
+fn bad_text(volume: &[u8], offset: u64, refusal: Refusal) -> Fields {
+    let is_text = refusal.number == NOT_TEXT;
+    let told = |value| if is_text { number(value) } else { Json::Null };
+    let which = which(volume, offset, refusal);
+    vec![
+        ("text", told(refusal.text)),
+        ("start", told(refusal.start)),
+        ("which", which.map_or(Json::Null, Json::Text)),
+    ]
+}
+
 /// What the check says of a volume.
 pub fn verdict(volume: &[u8]) -> Fields {
     match (check(volume), read_header(volume)) {
@@ -59,18 +76,22 @@ pub fn verdict(volume: &[u8]) -> Fields {
         ],
         (
             Verdict::Refused {
-                number: refused,
+                refusal,
                 offset,
                 blocks,
             },
             _,
-        ) => vec![
-            ("refused", number(refused)),
-            ("offset", number(offset)),
-            ("block", at_fault(offset, blocks)),
-            ("blocks", number(blocks)),
-        ],
-        (Verdict::Accepted { .. }, Err(refused)) => unreachable!("header refused: {refused}"),
+        ) => {
+            let mut fields = vec![
+                ("refused", number(refusal.number)),
+                ("offset", number(offset)),
+                ("block", at_fault(offset, blocks)),
+                ("blocks", number(blocks)),
+            ];
+            fields.extend(bad_text(volume, offset, refusal));
+            fields
+        }
+        (Verdict::Accepted { .. }, Err(refused)) => unreachable!("header refused: {refused:?}"),
     }
 }
 
@@ -165,15 +186,23 @@ pub fn run(run: &[u64; 5]) -> Fields {
     fields
 }
 
-/// The fault of a set that an object tells.
-pub fn fault(object: &Json) -> Option<SetFault> {
+/// The fault of a set of these volumes that an object tells: none if it says something of texts that
+/// does not belong there.
+pub fn fault(volumes: &[&[u8]], object: &Json) -> Option<SetFault> {
     let told = place(object, "file")?;
     let value = |name| object.field(name).number();
     if let Some(number) = value("refused") {
+        let offset = value("offset")?;
+        let refusal = Refusal {
+            number,
+            text: value("text").unwrap_or(0),
+            start: value("start").unwrap_or(0),
+        };
+        has(object, &bad_text(volumes.get(told)?, offset, refusal)).ok()?;
         return Some(SetFault::Refused {
             place: told,
-            number,
-            offset: value("offset")?,
+            refusal,
+            offset,
             blocks: value("blocks")?,
         });
     }

@@ -14,6 +14,7 @@ use compare::archives::folder::Folder;
 use compare::archives::reading::WHOLE;
 use compare::json::Json;
 use compare::seeds::{Seeds, USUAL};
+use compare::texts::Texts;
 use generator::archive::{archive, describe, Archive};
 use generator::rng::Rng;
 use independent::{File, FileRefusal, Set, SetFault};
@@ -33,6 +34,8 @@ struct Counts {
     extracted: u64,
     bytes: u64,
     refused: u64,
+    /// Sets that are refused for a text.
+    texts: Texts,
 }
 
 #[test]
@@ -60,6 +63,10 @@ fn the_command_agrees() {
     for (what, count) in sums {
         assert!(count > 10 || asked.count < USUAL, "{what}: {count}");
     }
+    let mut texts = Texts::default();
+    counted.iter().for_each(|counts| texts.add(&counts.texts));
+    println!("{texts}");
+    assert!(!texts.are_few(2) || asked.count < USUAL, "{texts}");
 }
 
 /// All that is asked of one archive.
@@ -82,7 +89,10 @@ fn compare(archive: &Archive, counts: &mut Counts) -> Result<(), String> {
         }
         Err(faults) => {
             counts.no_sets += 1;
-            refused_set(&given, folder.path(), &faults, archive.numbers[0])
+            if let [SetFault::Refused { refusal, .. }] = faults[..] {
+                counts.texts.note(refusal);
+            }
+            refused_set(&given, folder.path(), &lent, &faults, archive.numbers[0])
         }
     }
 }
@@ -137,6 +147,7 @@ fn inodes(given: &Given, set: &Set<'_>) -> Result<u64, String> {
 fn refused_set(
     given: &Given,
     folder: &Path,
+    volumes: &[&[u8]],
     faults: &[SetFault],
     number: u64,
 ) -> Result<(), String> {
@@ -150,7 +161,7 @@ fn refused_set(
     ] {
         let ran = given.run(command, options);
         ran.ended(1)?;
-        let told = expected::fault(&ran.object()?);
+        let told = expected::fault(volumes, &ran.object()?);
         if !told.is_some_and(|told| faults.contains(&told)) {
             return Err(format!("{told:?} is none of {faults:?}\n{ran:?}"));
         }
@@ -254,12 +265,15 @@ fn refused_file(
     let ran = given.run("extract", &options);
     ran.ended(1)?;
     let object = ran.object()?;
-    if let Some(refused) = refusal.number() {
+    if let Some(refused) = refusal.refusal() {
         let inode = &set.inodes()[&number];
         let fields = vec![
-            ("refused", expected::number(refused)),
+            ("refused", expected::number(refused.number)),
             ("offset", expected::number(inode.offset)),
             ("block", expected::block(set, inode)),
+            ("text", Json::Null),
+            ("start", Json::Null),
+            ("which", Json::Null),
         ];
         has(&object, &fields)?;
     }
