@@ -13,6 +13,7 @@ mod clock;
 mod files;
 mod report;
 mod sums;
+mod texts;
 mod timing;
 #[cfg(feature = "zlib")]
 #[allow(unsafe_code)]
@@ -27,8 +28,9 @@ const ROUNDS: usize = 9;
 type Part = fn(usize);
 
 /// The parts, by name.
-const PARTS: [(&str, Part); 5] = [
+const PARTS: [(&str, Part); 6] = [
     ("checks", checks::run),
+    ("texts", texts::run),
     ("files", files::run),
     ("sums", sums::run),
     ("appends", appends::run),

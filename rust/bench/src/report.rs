@@ -59,11 +59,22 @@ pub fn pair_heading(title: &str, unit: Unit) {
     );
 }
 
-/// One row of such a table: proved, independent.
-pub fn pair(name: &str, unit: Unit, times: [Duration; 2]) {
-    let [proved, independent] = times.map(|time| unit.of(time));
+/// The heading of a table of volumes at fault and the same volumes sound.
+pub fn sound_heading(title: &str, unit: Unit) {
+    let unit = unit.name();
     println!(
-        "{name:<44}{proved:>10.3}{independent:>15.3}{:>9.2}",
-        proved / independent
+        "{title:<44}{:>10}{:>15}{:>9}",
+        format!("fault {unit}"),
+        format!("sound {unit}"),
+        "ratio"
+    );
+}
+
+/// One row of a table with one ratio: that of the first to the second.
+pub fn pair(name: &str, unit: Unit, times: [Duration; 2]) {
+    let [first, second] = times.map(|time| unit.of(time));
+    println!(
+        "{name:<44}{first:>10.3}{second:>15.3}{:>9.2}",
+        first / second
     );
 }
