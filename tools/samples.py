@@ -710,7 +710,6 @@ def written_rows():
     yield from read_rows(buf, FULL)
     yield from call_rows(buf, None, UNCOUNTED)
     yield from same_as(buf, "same_time")
-    yield from text_rows(bytearray([9] * ROOM))
 
 
 def kind_rows(buf, mark, text):
@@ -720,7 +719,8 @@ def kind_rows(buf, mark, text):
         yield from call_rows(buf, mark, [call])
 
 
-def text_rows(buf):
+def text_rows():
+    buf = bytearray([9] * ROOM)
     for text, mark in REFUSED:
         yield from kind_rows(buf, mark, text)
     yield f"at {DUE}:"
@@ -736,10 +736,10 @@ CRATES = pathlib.Path("crates")
 def keep(crate, names, lines):
     """The volumes that a program reads, and what it must print."""
     folder = CRATES / crate / "data"
-    folder.mkdir(exist_ok=True)
     for old in folder.glob("*.vol"):
         old.unlink()
     for name in names:
+        folder.mkdir(exist_ok=True)
         (folder / f"{name}.vol").write_bytes(VOLUMES[name])
     (CRATES / crate / "stdout").write_text("\n".join(lines) + "\n")
 
@@ -752,6 +752,7 @@ def main():
     (CRATES / "samples/args").write_text("".join(f"{name}.vol\n" for name in VOLUMES))
     keep("lookup_samples", ["gauge", "later", "v", "wrong_magic", *(name for name, _ in BAD_LOOKUPS)], lookup_rows())
     keep("writing_samples", ["all_kinds", "same_time", "v"], written_rows())
+    keep("text_samples", [], text_rows())
 
 
 if __name__ == "__main__":

@@ -1,4 +1,4 @@
-// Bookmarks, and what readings from one on answer.
+// Bookmarks, what an append at one answers, and what readings from one on do.
 use crate::print_pair;
 use crate::print_refusal;
 use crate::print_word;
@@ -8,6 +8,7 @@ use volume::Bookmark;
 use volume::Found;
 use volume::LastTime;
 use volume::ReadAnswer;
+use volume::WriteAnswer;
 
 // Internal: the most blocks that a bookmark can count.
 pub const MOST_BLOCKS: u64 = 18446744073709551615;
@@ -31,6 +32,24 @@ pub fn print_refused(refusal: Refusal) {
     print_word(b": ");
     print_refusal(refusal);
     print_word(b"\n");
+}
+
+// Internal: prints the answer of a call that writes, and gives the bookmark for the next one: after a refusal, the same again.
+pub fn onward(call: &[u8], mark: Bookmark, answer: WriteAnswer) -> Bookmark {
+    print_word(b"write ");
+    print_word(call);
+    match answer {
+        WriteAnswer::Next(next) => {
+            print_word(b": next");
+            print_mark(next);
+            print_word(b"\n");
+            next
+        }
+        WriteAnswer::Refused(refusal) => {
+            print_refused(refusal);
+            mark
+        }
+    }
 }
 
 fn print_block(block: Block) {

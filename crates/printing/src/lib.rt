@@ -1,4 +1,5 @@
-// What the sample programs share: words, numbers, refusals, bookmarks and readings on standard output, and files read whole.
+// What the sample programs share: words, numbers, refusals, bookmarks, appends and readings on standard output, and files read
+// whole.
 pub mod bookmarks;
 
 use libc::STDOUT_FILENO;

@@ -1,58 +1,24 @@
 // A volume with a block of every kind, written afresh into a buffer that it fills, with refused calls among the accepted
 // ones. The bytes are then compared with those of all_kinds.vol, which was made from the layouts by other means, and listed.
 // A second volume has two blocks at one time, and a third one more than can be counted.
+mod calls;
+
+use calls::FOLDER;
+use calls::REGULAR;
+use calls::SYMBOLIC_LINK;
+use calls::at;
+use calls::compare;
+use calls::header;
+use calls::nowhere;
 use libc::STDOUT_FILENO;
 use printing::bookmarks::MOST_BLOCKS;
-use printing::bookmarks::print_mark;
+use printing::bookmarks::onward;
 use printing::bookmarks::print_readings;
-use printing::bookmarks::print_refused;
 use printing::load;
 use printing::print_word;
 use volume::Bookmark;
 use volume::LastTime;
 use volume::WriteAnswer;
-
-const REGULAR: u16 = 33188;
-
-const SYMBOLIC_LINK: u16 = 41471;
-
-const FOLDER: u16 = 16877;
-
-// Prints the answer of a call, and gives the bookmark for the next one: after a refusal, the same again.
-fn onward(call: &[u8], mark: Bookmark, answer: WriteAnswer) -> Bookmark {
-    print_word(b"write ");
-    print_word(call);
-    match answer {
-        WriteAnswer::Next(next) => {
-            print_word(b": next");
-            print_mark(next);
-            print_word(b"\n");
-            next
-        }
-        WriteAnswer::Refused(refusal) => {
-            print_refused(refusal);
-            mark
-        }
-    }
-}
-
-// The same, with the bookmark of the call printed first.
-fn at(call: &[u8], mark: Bookmark, answer: WriteAnswer) -> Bookmark {
-    print_word(b"at");
-    print_mark(mark);
-    print_word(b": ");
-    onward(call, mark, answer)
-}
-
-// A bookmark for calls that need none.
-fn nowhere() -> Bookmark {
-    Bookmark {
-        offset: 0,
-        due: false,
-        last: LastTime::Never,
-        number: 0,
-    }
-}
 
 // Headers that are refused: an ID and a hash of other lengths, a hash in volume 0, no room.
 fn no_headers(buf: &mut [u8; 659]) {
@@ -71,12 +37,6 @@ fn no_room() {
     onward(b"header in 79 bytes", nowhere(), a);
 }
 
-fn header(buf: &mut [u8], sequence: u64, previous: &[u8; 32]) -> Bookmark {
-    let id = b"\0\x01\x02\x03\x04\x05\x06\x07\x08\x09\x0A\x0B\x0C\x0D\x0E\x0F";
-    let a = volume::heading::write_header(buf, id, sequence, previous);
-    onward(b"header", nowhere(), a)
-}
-
 fn start(buf: &mut [u8; 659]) -> Bookmark {
     header(buf, 1, &[9u8; 32])
 }
@@ -87,7 +47,6 @@ fn table(buf: &mut [u8; 659], first: Bookmark) -> Bookmark {
         b"\x08\0\0\0\0\0\0\0\x01\0\0\0\0\0\0\0\x05\0gauge\x09\0\0\0\0\0\0\0\x01\0\0\0\0\0\0\0\x03\0log";
     let twice =
         b"\x08\0\0\0\0\0\0\0\x01\0\0\0\0\0\0\0\x01\0a\x09\0\0\0\0\0\0\0\x01\0\0\0\0\0\0\0\x01\0a";
-    let stray = b"\x08\0\0\0\0\0\0\0\x01\0\0\0\0\0\0\0\x01\0\xFF";
     let mut mark = first;
     mark = onward(
         b"data where a table is due",
@@ -108,11 +67,6 @@ fn table(buf: &mut [u8; 659], first: Bookmark) -> Bookmark {
         b"table with one link less",
         mark,
         mark.append_table(buf, 3, links),
-    );
-    mark = onward(
-        b"table, name not text",
-        mark,
-        mark.append_table(buf, 1, stray),
     );
     mark = onward(b"table, link twice", mark, mark.append_table(buf, 2, twice));
     mark = onward(b"table", mark, mark.append_table(buf, 2, links));
@@ -169,11 +123,6 @@ fn file(buf: &mut [u8; 659], mark: Bookmark) -> Bookmark {
 fn symbolic_links(buf: &mut [u8; 659], first: Bookmark) -> Bookmark {
     let mut mark = first;
     mark = onward(
-        b"target not text",
-        mark,
-        inode(mark, buf, 2, SYMBOLIC_LINK, 71, b"\x80"),
-    );
-    mark = onward(
         b"target of another size",
         mark,
         inode(mark, buf, 2, SYMBOLIC_LINK, 76, b"gauge"),
@@ -190,7 +139,7 @@ fn folders(buf: &mut [u8; 659], first: Bookmark) -> Bookmark {
     mark = onward(
         b"folder with a byte",
         mark,
-        inode(mark, buf, 3, FOLDER, 70, b"x"),
+        inode(mark, buf, 3, FOLDER, 70, b"\xFF"),
     );
     mark = onward(
         b"folder at a lower time",
@@ -208,11 +157,6 @@ fn names(buf: &mut [u8; 659], first: Bookmark) -> Bookmark {
         mark.append_link(buf, 4, 8, 1, &[0u8; 65536]),
     );
     mark = onward(b"link", mark, mark.append_link(buf, 4, 8, 1, b"gauge"));
-    mark = onward(
-        b"unlink, name not text",
-        mark,
-        mark.append_unlink(buf, 5, 8, 1, b"\xC3"),
-    );
     mark = onward(b"unlink", mark, mark.append_unlink(buf, 5, 8, 1, b"log"));
     mark = onward(
         b"xattr, name of 256 bytes",
@@ -235,11 +179,6 @@ fn names(buf: &mut [u8; 659], first: Bookmark) -> Bookmark {
 fn last_blocks(buf: &mut [u8; 659], first: Bookmark) -> Bookmark {
     let mut mark = first;
     mark = onward(b"data", mark, mark.append_data(buf, 8, b"1,5"));
-    mark = onward(
-        b"rename, new path not text",
-        mark,
-        mark.append_rename(buf, 9, b"gauge", b"p\xE9gel"),
-    );
     mark = onward(
         b"rename",
         mark,
@@ -295,19 +234,6 @@ fn bookmarks(buf: &mut [u8; 659]) {
         b"data past the limit",
         1,
     );
-}
-
-// Whether the volume that was written is the one made by other means.
-fn compare(written: &[u8], name: &[u8]) {
-    let mut made = [0u8; 1024];
-    let n = load(name, &mut made);
-    if number::same_bytes(written, &made[..n]) {
-        print_word(b"written: the bytes of ");
-    } else {
-        print_word(b"written: other bytes than ");
-    }
-    print_word(name);
-    print_word(b"\n");
 }
 
 fn compare_and_list(written: &[u8; 659]) {
