@@ -59,7 +59,7 @@ use Rattle.listing.specs.Listing.{listAnswer}
 use Rattle.listing.specs.inner.Text.{listing}
 use Rattle.listing.specs.declared.ListAnswer.the-variants as list
 use Rattle.claims.specs.Library.{ours}
-use Rattle.claims.specs.BadText.{Says, a-bad-text, nothing, BadIn, ImageAt, BadAt, BadNowhere, BadText}
+use Rattle.claims.specs.BadText.{Says, a-bad-text, nothing, BadIn, ImageAt, BadAt, BadNowhere, BadTextClaim}
 use Rattle.claims.proofs.AnyBookmark.{kind-shown}
 
 -- what the refusal of a block with these texts says, if 10 is given only where one of them is bad
@@ -283,7 +283,7 @@ list-says room volume refusal = go (leb (length (listing volume)) room)
     go true e = let z : _≡_ {A = ℕ} 0 1 = cc in absurd (omega arith)
     go false e = let same : refusalOf 17 ≡ refusal = cc in subst (Says BadNowhere) same (nothing (omega arith))
 
-pub bad-text-holds : BadText ours
+pub bad-text-holds : BadTextClaim ours
 bad-text-holds =
     record {
       read = λ volume mark refusal b. read-says volume b mark refusal;

@@ -19,7 +19,7 @@ use Rattle.volume.specs.Writing.{appendFault, appendAnswer}
 use Rattle.volume.specs.declared.LastTime.the-variants.{Never}
 use Rattle.volume.specs.declared.Bookmark.{Bookmark}
 use Rattle.volume.specs.declared.WriteAnswer.the-variants as write
-use Rattle.claims.specs.BadText.{Says, a-bad-text, nothing, BadText}
+use Rattle.claims.specs.BadText.{Says, a-bad-text, nothing, BadTextClaim}
 use Rattle.claims.specs.Wrong.{told, telling, inBlock, inLastText, besideAnyNumber, inSecondPart}
 
 -- What a refusal that is as claimed has.
@@ -99,27 +99,27 @@ told-else other mark block refusal e = ap (told (other block)) e
 -- Each says something that is not so.
 
 -- the text is shorter than the start
-pub start-in-block : BadText (telling inBlock) → ⊥
+pub start-in-block : BadTextClaim (telling inBlock) → ⊥
 start-in-block claim =
     let says = claim .append 0 atFirst badName _ (told-else inBlock atFirst badName _ bad-name) in
     omega (arith, start-within (bad-told says refl))
 
 -- a text before it is bad
-pub last-text-told : BadText (telling inLastText) → ⊥
+pub last-text-told : BadTextClaim (telling inLastText) → ⊥
 last-text-told claim =
     let says = claim .append 0 atFirst badPaths _ (told-else inLastText atFirst badPaths _ bad-paths) in
     let good : WellFormed (0xFF ∷ []) = first-good (bad-told says refl) (omega arith) in
     false≢true (sym ff-is-bad ∙ text-iff-well-formed (0xFF ∷ []) .1 good)
 
 -- the number is not 10
-pub text-told-beside-any-number : BadText (telling besideAnyNumber) → ⊥
+pub text-told-beside-any-number : BadTextClaim (telling besideAnyNumber) → ⊥
 text-told-beside-any-number claim =
     let says = claim .append 0 tableDue laterBad _ (told-else besideAnyNumber tableDue laterBad _ out-of-place) in
     let zero = nothing-told says (λ (e : _≡_ {A = ℕ} 8 10). omega arith) in
     omega (arith, zero, later-start)
 
 -- there is no such text
-pub second-part-told : BadText (telling inSecondPart) → ⊥
+pub second-part-told : BadTextClaim (telling inSecondPart) → ⊥
 second-part-told claim =
     let says = claim .append 0 atFirst badXattr _ (told-else inSecondPart atFirst badXattr _ bad-xattr) in
     omega (arith, place-within (bad-told says refl))

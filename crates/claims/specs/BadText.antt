@@ -6,7 +6,6 @@ use mathlib.Core.Path.{_≡_}
 use mathlib.Core.List.{List}
 use lib.ListN.{length}
 use Rattle.number.specs.Number.{Bytes, part}
-use Rattle.refusal.specs.Refusal.{refusalOf}
 use Rattle.refusal.specs.Texts.{FirstBad}
 use Rattle.refusal.specs.declared.Refusal.{Refusal}
 use Rattle.format.specs.Layout.{Fit}
@@ -28,7 +27,7 @@ use Rattle.claims.specs.Library.{Library}
 -- A refusal with the number 10 has the place of a bad text and where that is bad, and any other has 0 and 0.
 pub data Says (Bad : (text start : ℕ) → Type 0) : Refusal → Type 0 where
   a-bad-text : {text start : ℕ} → Bad text start → Says Bad (record { number = 10; text = text; start = start })
-  nothing : {number : ℕ} → (number ≡ 10 → ⊥) → Says Bad (refusalOf number)
+  nothing : {number : ℕ} → (number ≡ 10 → ⊥) → Says Bad (record { number = number; text = 0; start = 0 })
 
 -- The first bad text of a block.
 abbrev pub BadIn : Block → (text start : ℕ) → Type 0
@@ -53,7 +52,7 @@ abbrev pub BadNowhere : (text start : ℕ) → Type 0
 BadNowhere text start = ⊥
 
 module _ (library : Library) where
-  pub record BadText : Type 0 where
+  pub record BadTextClaim : Type 0 where
     -- calls on the block at an offset
     pub read : (volume : List ℕ) (mark : Bookmark) (refusal : Refusal) → Bytes volume
         → library .read volume mark ≡ read.Refused refusal → Says (BadAt volume (mark .offset)) refusal

@@ -1,6 +1,6 @@
 -- Libraries that are wrong, each in one way, and that a claim is false of. The first are the empty programs that a claim has to shut
 -- out: they answer, but nothing comes of it. The next are right wherever a claim used to look, and wrong beside it. Two go by another
--- rule for times, and the last three count blocks in another way.
+-- rule for times, three count blocks in another way, and the last four tell the wrong text or place.
 --
 -- What a wrong library answers is what ours does, but for the calls named. Proved in proofs/Wrong.antt.
 use Prim.Native.Nat.{ℕ, suc, _+_, _-_}
@@ -39,7 +39,7 @@ use Rattle.listing.specs.Listing.{headingLine, endLine}
 use Rattle.listing.specs.declared.ListAnswer.the-variants as list
 use Rattle.claims.specs.Library.{Library, ours}
 use Rattle.claims.specs.LastNumber.{numbered}
-use Rattle.claims.specs.BadText.{BadText}
+use Rattle.claims.specs.BadText.{BadTextClaim}
 use Rattle.claims.specs.Demand2.{Demand2}
 use Rattle.claims.specs.Demand3.{Demand3}
 use Rattle.claims.specs.Listed.{Listed}
@@ -296,7 +296,7 @@ pub record WrongAreShutOut : Type 0 where
   pub numbers-from-one : Demand3 numbersFromOne → ⊥
   pub counts-no-table : Demand3 countsNoTable → ⊥
   pub counts-no-append : Demand3 countsNoAppend → ⊥
-  pub start-in-block : BadText (telling inBlock) → ⊥
-  pub last-text-told : BadText (telling inLastText) → ⊥
-  pub text-told-beside-any-number : BadText (telling besideAnyNumber) → ⊥
-  pub second-part-told : BadText (telling inSecondPart) → ⊥
+  pub start-in-block : BadTextClaim (telling inBlock) → ⊥
+  pub last-text-told : BadTextClaim (telling inLastText) → ⊥
+  pub text-told-beside-any-number : BadTextClaim (telling besideAnyNumber) → ⊥
+  pub second-part-told : BadTextClaim (telling inSecondPart) → ⊥
