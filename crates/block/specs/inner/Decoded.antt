@@ -1,5 +1,6 @@
 -- Inner page: the block that stands at an offset, computed: its fields, the places of its variable parts, and where it ends.
 -- Joined to ReadClaim of claims/AnyBookmark by read-at-any-bookmark.
+-- Joined to ImageAt of claims/BadText by only-shown.
 -- Joined to timeOf of format/Readings by same-time.
 use Prim.Native.Nat.{ℕ, _+_}
 use mathlib.Core.Option.{Option, none, some}
