@@ -7,7 +7,7 @@ use mathlib.Core.List.{List, _++_}
 use lib.ListN.{length, take, drop}
 use lib.Seq.{take-at}
 use Rattle.number.specs.Number.{Bytes}
-use Rattle.number.proofs.Parts.{drop-part}
+use Rattle.number.proofs.Parts.{part-stands}
 use Rattle.format.specs.Blocks.{Kind, inodeBlock, linkBlock, unlinkBlock, xattrBlock, removedXattrBlock, dataBlock, renameBlock, linkTable}
 use Rattle.format.specs.Blocks.{Block, kindOf, image}
 use Rattle.format.specs.Readings.{IsTable, timeOf}
@@ -103,7 +103,7 @@ module _ (volume : List ℕ) (mark : Bookmark) (b : Bytes volume) where
       } in
       let rest : List ℕ = drop (mark .offset + length (image block)) volume in
       let there : drop (mark .offset) volume ≡ image block ++ rest
-      = drop-part volume (mark .offset) (length (image block)) ∙ ap (λ bytes. bytes ++ rest) (s .image-there) in
+      = part-stands volume (image block) (mark .offset) (length (image block)) (s .image-there) in
       let h : Hands volume mark block = read-complete volume mark block (s .small) (s .in-place .after-the-header) allowed rest there in
       (foundAt volume mark, h .answer, h .same)
 

@@ -9,7 +9,7 @@ use lib.ListN.{length, take, drop, length-drop}
 use borrow.Author.Tests.{ltb-false, eqb-true, eqb-false}
 use Rattle.number.specs.Number.{Bytes}
 use Rattle.number.proofs.Digits.{bytes-drop}
-use Rattle.number.proofs.Parts.{drop-part}
+use Rattle.number.proofs.Parts.{part-stands}
 use Rattle.checks.specs.Checks.{Check, check, firstFault}
 use Rattle.checks.proofs.Laws.{gives, given, not-given}
 use Rattle.checks.proofs.Passed.{Passed, reached, stays}
@@ -146,10 +146,8 @@ module _ (volume : List ℕ) (offset : ℕ) (b : Bytes volume) where
   -- and any block whose image stands there is shown there
   only-shown : (block : Block) → ImageAt volume offset block → block ≡ shown volume (blockAt volume offset)
   only-shown block i =
-      let rest : List ℕ = drop (offset + length (image block)) volume in
-      let there : drop offset volume ≡ image block ++ rest
-      = drop-part volume offset (length (image block)) ∙ ap (λ bytes. bytes ++ rest) (i .same) in
-      sym (image-shown block volume offset rest (i .fit) there b (i .fill))
+      let there = part-stands volume (image block) offset (length (image block)) (i .same) in
+      sym (image-shown block volume offset _ (i .fit) there b (i .fill))
 
   -- 10 among the checks of a block, of which those after it know nothing
   bad-at : (due : Bool) (after : List Check) → gives 10 after ≡ false → firstFault (blockOrder volume offset due ++ after) ≡ 10

@@ -5,7 +5,7 @@ use mathlib.Core.Path.{_≡_, refl, sym, ap, ap₂, _∙_}
 use mathlib.Core.Logic.{⊎-elim}
 use mathlib.Core.Bool.{false}
 use mathlib.Core.Option.{some}
-use mathlib.Core.List.{List, [], _∷_, _++_}
+use mathlib.Core.List.{List, [], _∷_}
 use mathlib.Mathlib.Data.Bool.Basic.{dichotomy}
 use native.Mathlib.Nat.{add-zero}
 use native.Mathlib.Omega.{arith}
@@ -15,8 +15,8 @@ use lib.Seq.{drop-cons}
 use borrow.Author.Tests.{le-ltb, ltb-true, ltb-false, eqb-true, eqb-false, ne-eqb}
 use Rattle.number.specs.Number.{Bytes, part}
 use Rattle.number.specs.Address.{Address}
-use Rattle.number.proofs.Parts.{length-part, getD-part, part-append, drop-part}
-use Rattle.format.specs.Headers.{Header}
+use Rattle.number.proofs.Parts.{length-part, getD-part, part-append, part-stands}
+use Rattle.format.specs.Headers.{Header, headerImage}
 use Rattle.block.specs.Fields.{sizeAt}
 use Rattle.volume.specs.Heading.{sequenceOf, headerFault}
 use Rattle.volume.proofs.HeaderImage.{headerAt, HeaderStands, header-sound, HeaderShown, header-complete}
@@ -48,7 +48,7 @@ module _ (volume : List ℕ) (number : ℕ) (h : HasNumber volume number) where
   shown : HeaderShown volume (h .header)
   shown =
       header-complete volume (h .header) (drop 80 volume) (h .keeps) (h .small)
-      (drop-part volume 0 80 ∙ ap (λ bytes. bytes ++ drop 80 volume) (h .stands))
+      (part-stands volume (headerImage (h .header)) 0 80 (h .stands))
 
   is-sound : headerFault volume ≡ 0
   is-sound = shown .no-fault

@@ -11,7 +11,7 @@ use lib.ListN.{length, drop, getD, length-append, length-drop}
 use borrow.Author.Tests.{ltb-false, eqb-true, not-false, le-ltb, lt-leb, eq-eqb}
 use Rattle.number.specs.Number.{Bytes, part}
 use Rattle.number.proofs.Digits.{bytes-drop}
-use Rattle.number.proofs.Parts.{length-part, bytes-part, drop-part}
+use Rattle.number.proofs.Parts.{length-part, bytes-part, part-stands}
 use Rattle.checks.specs.Checks.{firstFault, clear, miss}
 use Rattle.checks.proofs.Laws.{decided, rest, none-append}
 use Rattle.checks.proofs.Scan.{any-nowhere}
@@ -130,9 +130,7 @@ module _ (volume : List ℕ) (offset : ℕ) (lengths : List ℕ) (m : AllIsThere
   block = Inode (m .file .inode)
 
   image-stands : drop offset volume ≡ image block ++ drop (offset + length (image block)) volume
-  image-stands =
-      drop-part volume offset (length (image block))
-      ∙ ap (λ bytes. bytes ++ drop (offset + length (image block)) volume) (m .file .stands)
+  image-stands = part-stands volume (image block) offset (length (image block)) (m .file .stands)
 
   reads : Reads volume offset block
   reads = block-complete block volume offset (drop (offset + length (image block)) volume) (m .file .keeps) image-stands

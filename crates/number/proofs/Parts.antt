@@ -52,6 +52,10 @@ pub drop-part : (bytes : List ℕ) (offset len : ℕ) → drop offset bytes ≡ 
 drop-part bytes offset len =
     sym (take-append-drop len (drop offset bytes)) ∙ ap (λ rest. part bytes offset len ++ rest) (drop-drop len offset bytes)
 
+-- what a part is stands there
+pub part-stands : (bytes new : List ℕ) (offset len : ℕ) → part bytes offset len ≡ new → drop offset bytes ≡ new ++ drop (offset + len) bytes
+part-stands bytes new offset len e = drop-part bytes offset len ∙ ap (λ there. there ++ drop (offset + len) bytes) e
+
 -- bytes that stand at an offset are the part there, and after them stands the rest
 module _ (bytes new rest : List ℕ) (offset len : ℕ) (e : drop offset bytes ≡ new ++ rest) (l : length new ≡ len) where
   pub part-at : part bytes offset len ≡ new

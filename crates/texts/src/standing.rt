@@ -11,7 +11,7 @@ ghost use mathlib.Core.List.{[], _∷_};
 ghost use Prim.Native.Nat.{_<_};
 ghost use lib.ListN.{length};
 ghost use Rattle.number.specs.Number.{part};
-ghost use Rattle.format.specs.Blocks.{Kind, inodeBlock, linkBlock, xattrBlock, removedXattrBlock, renameBlock, linkTable};
+ghost use Rattle.format.specs.Blocks.{inodeBlock, renameBlock, linkTable};
 ghost use Rattle.block.specs.Shown.{shown};
 ghost use Rattle.block.specs.inner.Decoded.{blockOf};
 ghost use Rattle.refusal.specs.inner.FirstBad.{firstBad};
