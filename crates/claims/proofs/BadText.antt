@@ -61,6 +61,7 @@ use Rattle.listing.specs.declared.ListAnswer.the-variants as list
 use Rattle.claims.specs.Library.{ours}
 use Rattle.claims.specs.BadText.{Says, a-bad-text, nothing, BadIn, ImageAt, BadAt, BadNowhere, BadTextClaim}
 use Rattle.claims.proofs.AnyBookmark.{kind-shown}
+use Rattle.claims.proofs.TextOrder.{texts-in-order}
 
 -- what the refusal of a block with these texts says, if 10 is given only where one of them is bad
 says : {Bad : (text start : ℕ) → Type 0} (number : ℕ) (texts : List (List ℕ))
@@ -284,6 +285,7 @@ list-says room volume refusal = go (leb (length (listing volume)) room)
 pub bad-text-holds : BadTextClaim ours
 bad-text-holds =
     record {
+      in-layout-order = texts-in-order;
       read = λ volume mark refusal b. read-says volume b mark refusal;
       check = λ volume rejected b. checked-says volume b (checked volume) rejected;
       position = λ volume offset lengths position refusal b. position-says volume b offset lengths position refusal;

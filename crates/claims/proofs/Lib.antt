@@ -7,6 +7,7 @@ pub mod Sofar
 pub mod Appends
 pub mod AnyBookmark
 pub mod LastNumber
+pub mod TextOrder
 pub mod BadText
 pub mod Starts
 pub mod Afresh

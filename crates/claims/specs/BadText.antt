@@ -3,13 +3,13 @@
 -- It is a claim about a library, by its calls. Proved of ours in proofs/BadText.antt.
 use Prim.Native.Nat.{ℕ}
 use mathlib.Core.Path.{_≡_}
-use mathlib.Core.List.{List}
+use mathlib.Core.List.{List, [], _∷_, _++_}
 use lib.ListN.{length}
 use Rattle.number.specs.Number.{Bytes, part}
 use Rattle.refusal.specs.Texts.{FirstBad}
 use Rattle.refusal.specs.declared.Refusal.{Refusal}
 use Rattle.format.specs.Layout.{Fit}
-use Rattle.format.specs.Blocks.{widths, TableFields, Block, Table, kindOf, fields, image}
+use Rattle.format.specs.Blocks.{widths, TableFields, Block, Table, kindOf, fields, body, image}
 use Rattle.format.specs.Headers.{Header}
 use Rattle.links.specs.Links.{linkStart}
 use Rattle.texts.specs.Texts.{texts}
@@ -28,6 +28,12 @@ use Rattle.claims.specs.Library.{Library}
 pub data Says (Bad : (text start : ℕ) → Type 0) : Refusal → Type 0 where
   a-bad-text : {text start : ℕ} → Bad text start → Says Bad (record { number = 10; text = text; start = start })
   nothing : {number : ℕ} → (number ≡ 10 → ⊥) → Says Bad (record { number = number; text = 0; start = 0 })
+
+-- Texts that stand in bytes one after the other, whatever stands before, between and behind them.
+pub data InOrder : (bytes : List ℕ) (texts : List (List ℕ)) → Type 0 where
+  no-more : {bytes : List ℕ} → InOrder bytes []
+  one-more : {texts : List (List ℕ)} (before text behind : List ℕ) → InOrder behind texts
+      → InOrder (before ++ (text ++ behind)) (text ∷ texts)
 
 -- The first bad text of a block.
 abbrev pub BadIn : Block → (text start : ℕ) → Type 0
@@ -53,6 +59,8 @@ BadNowhere text start = ⊥
 
 module _ (library : Library) where
   pub record BadTextClaim : Type 0 where
+    -- texts are counted as they stand in the block
+    pub in-layout-order : (block : Block) → InOrder (body block) (texts block)
     -- calls on the block at an offset
     pub read : (volume : List ℕ) (mark : Bookmark) (refusal : Refusal) → Bytes volume
         → library .read volume mark ≡ read.Refused refusal → Says (BadAt volume (mark .offset)) refusal
