@@ -1,7 +1,7 @@
 -- The checksum fits four bytes. The register of a longer list continues from that of its beginning.
 -- The subtraction in the checksum's definition is a complement.
-use Prim.Native.Nat.{ℕ, _+_, _*_, _/_, _%_, _^_, _<_}
-use mathlib.Core.Path.{_≡_}
+use Prim.Native.Nat.{ℕ, _+_, _-_, _*_, _/_, _%_, _^_, _<_}
+use mathlib.Core.Path.{_≡_, ap}
 use mathlib.Core.List.{List, [], _∷_, _++_, foldl, foldl-append}
 use native.Mathlib.Omega.{arith}
 use lib.Bits.{xor-lt}
@@ -14,6 +14,11 @@ crc-lt bytes = omega arith
 pub register-append : (earlier later : List ℕ) → register (earlier ++ later) ≡ foldl byteStep (register earlier) later
 unfolding register
 register-append earlier later = foldl-append byteStep _ earlier later
+
+-- The complement of the register is the checksum.
+pub complement : (bytes : List ℕ) (last : ℕ) → last ≡ register bytes → 0xFFFFFFFF - last ≡ crc bytes
+unfolding crc
+complement bytes last = ap (λ r. 0xFFFFFFFF - r)
 
 -- Every step keeps the register within 32 bits, so the whole fold does.
 foldl-lt :

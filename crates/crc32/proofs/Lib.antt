@@ -1,4 +1,7 @@
-pub mod Xor
 pub mod Shift
+pub mod Linear
+pub mod Row
+pub mod Sparse
+pub mod Folded
 pub mod Laws
 pub mod Vectors

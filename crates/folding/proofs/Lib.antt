@@ -1,0 +1,5 @@
+pub mod Laying
+pub mod Window
+pub mod Rest
+pub mod Lengths
+pub mod Samples

@@ -1,0 +1,6 @@
+pub mod Xor
+pub mod Linear
+pub mod Values
+pub mod Rows
+pub mod Sliced
+pub mod Turns
