@@ -9,13 +9,15 @@ ghost use mathlib.Core.Path.{_≡_};
 ghost use Prim.Native.Nat.{_+_, _≤_, _<_};
 ghost use lib.ListN.{length};
 ghost use Rattle.format.specs.Blocks.{dataBlock};
+ghost use Rattle.crc32.specs.inner.Tables.{Lent};
 ghost use Rattle.checks.specs.Checks.{firstFault};
 ghost use Rattle.block.specs.Order.{kindOrder};
 ghost use Rattle.block.specs.inner.Decoded.{decodedOf};
 ghost use Rattle.block.specs.Fields.{bodyEnd};
 
 // The first fault of the data block at `offset`.
-pub(crate) fn data_fault(volume: &[u8], offset: usize) -> u64
+pub(crate) fn data_fault(tables: &[u32], volume: &[u8], offset: usize) -> u64
+    requires { ⌜ Lent (now tables) ⌝ }
     requires { ⌜ offset < length (now volume) ⌝ }
     ensures { λ r. ⌜ r ≡ firstFault (kindOrder dataBlock (now (volume .entry)) offset) ⌝ }
 {
@@ -23,7 +25,8 @@ pub(crate) fn data_fault(volume: &[u8], offset: usize) -> u64
     if volume.len() < from {
         return CUT_SHORT;
     }
-    sealed_fault(volume, offset, from, number::read_u64(volume, offset + 9))
+    let n = number::read_u64(volume, offset + 9);
+    sealed_fault(tables, volume, offset, from, n)
 }
 
 // The data block at `offset`.

@@ -16,6 +16,7 @@ ghost use mathlib.Core.List.{_++_};
 ghost use lib.ListN.{length};
 ghost use Rattle.number.specs.Number.{part};
 ghost use Rattle.format.specs.Blocks.{inodeBlock, fileType, regular, symbolicLink, other};
+ghost use Rattle.crc32.specs.inner.Tables.{Lent};
 ghost use Rattle.checks.specs.Checks.{firstFault};
 ghost use Rattle.block.specs.Order.{kindOrder, tooLong, restOrder};
 ghost use Rattle.block.specs.inner.Decoded.{decodedOf};
@@ -101,12 +102,21 @@ pub fn rest_fault(mode: u16, size: u64, rest: &[u8]) -> u64
 }
 
 // The first fault in the end of the block at `offset`, whose n bytes begin at `from`, and then in these bytes.
-fn end_fault(volume: &[u8], offset: usize, from: usize, mode: u16, size: u64, n: u64) -> u64
+fn end_fault(
+    tables: &[u32],
+    volume: &[u8],
+    offset: usize,
+    from: usize,
+    mode: u16,
+    size: u64,
+    n: u64,
+) -> u64
+    requires { ⌜ Lent (now tables) ⌝ }
     requires { ⌜ (offset ≤ from) × (from ≤ length (now volume)) × (tooLong (fileType mode) n ≡ false) ⌝ }
     ensures { λ r. ⌜ r ≡ firstFault (sealedOrder (now (volume .entry)) offset (from + n)
         ++ restOrder (fileType mode) size (part (now (volume .entry)) from n)) ⌝ }
 {
-    let fault = sealed_fault(volume, offset, from, n);
+    let fault = sealed_fault(tables, volume, offset, from, n);
     if fault != 0 {
         return fault;
     }
@@ -114,7 +124,8 @@ fn end_fault(volume: &[u8], offset: usize, from: usize, mode: u16, size: u64, n:
 }
 
 // The first fault of the inode block at `offset`.
-pub(crate) fn inode_fault(volume: &[u8], offset: usize) -> u64
+pub(crate) fn inode_fault(tables: &[u32], volume: &[u8], offset: usize) -> u64
+    requires { ⌜ Lent (now tables) ⌝ }
     requires { ⌜ offset < length (now volume) ⌝ }
     ensures { λ r. ⌜ r ≡ firstFault (kindOrder inodeBlock (now (volume .entry)) offset) ⌝ }
 {
@@ -128,7 +139,7 @@ pub(crate) fn inode_fault(volume: &[u8], offset: usize) -> u64
     if is_too_long(mode, n) {
         return OVER_LIMIT;
     }
-    end_fault(volume, offset, from, mode, size, n)
+    end_fault(tables, volume, offset, from, mode, size, n)
 }
 
 // The inode block at `offset`.

@@ -4,8 +4,10 @@
 // fault of a block; `decode`, the block where there is none; `sum_wrong`, the test of a checksum. `volume` calls them.
 // Each kind of block has a file, with its checks and its decoding; `request` calls the checks of an inode's n bytes, which
 // are the same in writing. `limits` has the limits of a volume and of a table.
+// `tables` is empty, or the tables of crc32: filled once by a walk and lent to every block. `lending` has what lenders share.
 mod data;
 pub mod inode;
+pub mod lending;
 pub mod limits;
 mod link;
 mod rename;
@@ -23,6 +25,7 @@ use refusal::TOO_LARGE;
 ghost use mathlib.Core.Path.{_≡_};
 ghost use Prim.Native.Nat.{_+_, _≤_, _<_};
 ghost use lib.ListN.{length};
+ghost use Rattle.crc32.specs.inner.Tables.{Lent};
 ghost use Rattle.checks.specs.Checks.{firstFault};
 ghost use Rattle.block.specs.Fields.{kindWith, kindAt};
 ghost use Rattle.block.specs.Order.{volumeLimit, unknownId, wrongPlace, checksumWrong, kindOrder, blockOrder};
@@ -120,24 +123,26 @@ fn is_out_of_place(due: bool, id: u8) -> bool
 }
 
 // The first fault of the block at `offset` by the checks of its kind.
-fn kind_fault(volume: &[u8], offset: usize, id: u8) -> u64
+fn kind_fault(tables: &[u32], volume: &[u8], offset: usize, id: u8) -> u64
+    requires { ⌜ Lent (now tables) ⌝ }
     requires { ⌜ (offset < length (now volume)) × (length (now volume) ≤ volumeLimit) ⌝ }
     ensures { λ r. ⌜ r ≡ firstFault (kindOrder (kindWith id) (now (volume .entry)) offset) ⌝ }
 {
     match id {
-        1 => inode::inode_fault(volume, offset),
-        2 => link::link_fault(volume, offset),
-        3 => link::link_fault(volume, offset),
-        4 => xattr::xattr_fault(volume, offset),
-        5 => xattr::removed_xattr_fault(volume, offset),
-        6 => data::data_fault(volume, offset),
-        7 => rename::rename_fault(volume, offset),
-        _ => table::table_fault(volume, offset),
+        1 => inode::inode_fault(tables, volume, offset),
+        2 => link::link_fault(tables, volume, offset),
+        3 => link::link_fault(tables, volume, offset),
+        4 => xattr::xattr_fault(tables, volume, offset),
+        5 => xattr::removed_xattr_fault(tables, volume, offset),
+        6 => data::data_fault(tables, volume, offset),
+        7 => rename::rename_fault(tables, volume, offset),
+        _ => table::table_fault(tables, volume, offset),
     }
 }
 
 // Internal: the first fault of the block at `offset`, up to the time, or 0. `due` says whether a table is due.
-pub fn block_fault(volume: &[u8], offset: usize, due: bool) -> u64
+pub fn block_fault(tables: &[u32], volume: &[u8], offset: usize, due: bool) -> u64
+    requires { ⌜ Lent (now tables) ⌝ }
     ensures { λ r. ⌜ r ≡ firstFault (blockOrder (now (volume .entry)) offset due) ⌝ }
 {
     if VOLUME_LIMIT < volume.len() {
@@ -156,7 +161,7 @@ pub fn block_fault(volume: &[u8], offset: usize, due: bool) -> u64
     if is_out_of_place(due, id) {
         return OUT_OF_PLACE;
     }
-    kind_fault(volume, offset, id)
+    kind_fault(tables, volume, offset, id)
 }
 
 // Internal: the block at `offset`, where its kind's checks find no fault, and the offset after it.
@@ -177,9 +182,10 @@ pub fn decode(volume: &[u8], offset: usize) -> Decoded
 }
 
 // Internal: whether the four bytes at `end` are not the CRC of the bytes from `offset` to `end`.
-pub fn sum_wrong(volume: &[u8], offset: usize, end: usize) -> bool
+pub fn sum_wrong(tables: &[u32], volume: &[u8], offset: usize, end: usize) -> bool
+    requires { ⌜ Lent (now tables) ⌝ }
     requires { ⌜ (offset ≤ end) × (end + 4 ≤ length (now volume)) ⌝ }
     ensures { λ r. ⌜ r ≡ checksumWrong (now (volume .entry)) offset end ⌝ }
 {
-    number::read_u32(volume, end) != crc32::crc32(&volume[offset..end])
+    number::read_u32(volume, end) != crc32::crc32_by(tables, &volume[offset..end])
 }

@@ -9,13 +9,15 @@ ghost use mathlib.Core.Path.{_≡_};
 ghost use Prim.Native.Nat.{_+_, _≤_, _<_};
 ghost use lib.ListN.{length};
 ghost use Rattle.format.specs.Blocks.{linkBlock, unlinkBlock};
+ghost use Rattle.crc32.specs.inner.Tables.{Lent};
 ghost use Rattle.checks.specs.Checks.{firstFault};
 ghost use Rattle.block.specs.Order.{kindOrder};
 ghost use Rattle.block.specs.inner.Decoded.{linkBlockOf, decodedOf};
 ghost use Rattle.block.specs.Fields.{fieldAt, bodyEnd};
 
 // The first fault of the link block at `offset`. An unlink block has the same checks.
-pub(crate) fn link_fault(volume: &[u8], offset: usize) -> u64
+pub(crate) fn link_fault(tables: &[u32], volume: &[u8], offset: usize) -> u64
+    requires { ⌜ Lent (now tables) ⌝ }
     requires { ⌜ offset < length (now volume) ⌝ }
     ensures { λ r. ⌜ r ≡ firstFault (kindOrder linkBlock (now (volume .entry)) offset) ⌝ }
 {
@@ -24,7 +26,7 @@ pub(crate) fn link_fault(volume: &[u8], offset: usize) -> u64
         return CUT_SHORT;
     }
     let n = number::read_u16(volume, offset + 25) as usize;
-    text_fault(volume, offset, from, n, n)
+    text_fault(tables, volume, offset, from, n, n)
 }
 
 // The fields of either block, whose name has `n` bytes.

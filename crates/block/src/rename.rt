@@ -10,6 +10,7 @@ ghost use mathlib.Core.Path.{_≡_};
 ghost use Prim.Native.Nat.{_+_, _≤_, _<_};
 ghost use lib.ListN.{length};
 ghost use Rattle.format.specs.Blocks.{renameBlock};
+ghost use Rattle.crc32.specs.inner.Tables.{Lent};
 ghost use Rattle.checks.specs.Checks.{firstFault};
 ghost use Rattle.block.specs.Order.{kindOrder};
 ghost use Rattle.block.specs.inner.Decoded.{decodedOf};
@@ -17,11 +18,12 @@ ghost use Rattle.block.specs.Fields.{bodyEnd};
 ghost use Rattle.block.specs.inner.Parts.{pathsOrder};
 
 // The first fault in the end of the block at `offset`, whose two paths of `n` and `m` bytes begin at `from`.
-fn paths_fault(volume: &[u8], offset: usize, from: usize, n: usize, m: usize) -> u64
+fn paths_fault(tables: &[u32], volume: &[u8], offset: usize, from: usize, n: usize, m: usize) -> u64
+    requires { ⌜ Lent (now tables) ⌝ }
     requires { ⌜ (offset ≤ from) × (from ≤ length (now volume)) × (n < 65536) × (m < 65536) ⌝ }
     ensures { λ r. ⌜ r ≡ firstFault (pathsOrder (now (volume .entry)) offset from n m) ⌝ }
 {
-    let fault = text_fault(volume, offset, from, n, n + m);
+    let fault = text_fault(tables, volume, offset, from, n, n + m);
     if fault != 0 {
         return fault;
     }
@@ -33,7 +35,8 @@ fn paths_fault(volume: &[u8], offset: usize, from: usize, n: usize, m: usize) ->
 }
 
 // The first fault of the rename block at `offset`.
-pub(crate) fn rename_fault(volume: &[u8], offset: usize) -> u64
+pub(crate) fn rename_fault(tables: &[u32], volume: &[u8], offset: usize) -> u64
+    requires { ⌜ Lent (now tables) ⌝ }
     requires { ⌜ offset < length (now volume) ⌝ }
     ensures { λ r. ⌜ r ≡ firstFault (kindOrder renameBlock (now (volume .entry)) offset) ⌝ }
 {
@@ -43,7 +46,7 @@ pub(crate) fn rename_fault(volume: &[u8], offset: usize) -> u64
     }
     let n = number::read_u16(volume, offset + 9) as usize;
     let m = number::read_u16(volume, offset + 11) as usize;
-    paths_fault(volume, offset, from, n, m)
+    paths_fault(tables, volume, offset, from, n, m)
 }
 
 // The rename block at `offset`.

@@ -14,6 +14,7 @@ ghost use Prim.Native.Nat.{_+_, _≤_, _<_};
 ghost use mathlib.Core.List.{_++_};
 ghost use lib.ListN.{length, drop};
 ghost use Rattle.format.specs.Blocks.{linkTable};
+ghost use Rattle.crc32.specs.inner.Tables.{Lent};
 ghost use Rattle.checks.specs.Checks.{firstFault};
 ghost use Rattle.block.specs.Order.{volumeLimit, kindOrder};
 ghost use Rattle.block.specs.inner.Decoded.{decodedOf};
@@ -44,14 +45,15 @@ fn links_fault(list: &[u8], count: u64) -> u64
 }
 
 // The first fault in the end of the table at `offset`, whose links begin at `from`, and then in these links.
-fn end_fault(volume: &[u8], offset: usize, from: usize, count: u64) -> u64
+fn end_fault(tables: &[u32], volume: &[u8], offset: usize, from: usize, count: u64) -> u64
+    requires { ⌜ Lent (now tables) ⌝ }
     requires { ⌜ (offset ≤ from) × (from ≤ length (now volume)) × (length (now volume) ≤ volumeLimit) × (count ≤ 4096) ⌝ }
     ensures { λ r. ⌜ r ≡ firstFault (
         sealedOrder (now (volume .entry)) offset (from + linkStart (drop from (now (volume .entry))) count)
         ++ linksOrder (drop from (now (volume .entry))) count) ⌝ }
 {
     let len = len_of_links(volume, from, count);
-    let fault = sealed_fault(volume, offset, from, len as u64);
+    let fault = sealed_fault(tables, volume, offset, from, len as u64);
     if fault != 0 {
         return fault;
     }
@@ -59,7 +61,8 @@ fn end_fault(volume: &[u8], offset: usize, from: usize, count: u64) -> u64
 }
 
 // The first fault of the link table at `offset`.
-pub(crate) fn table_fault(volume: &[u8], offset: usize) -> u64
+pub(crate) fn table_fault(tables: &[u32], volume: &[u8], offset: usize) -> u64
+    requires { ⌜ Lent (now tables) ⌝ }
     requires { ⌜ (offset < length (now volume)) × (length (now volume) ≤ volumeLimit) ⌝ }
     ensures { λ r. ⌜ r ≡ firstFault (kindOrder linkTable (now (volume .entry)) offset) ⌝ }
 {
@@ -71,7 +74,7 @@ pub(crate) fn table_fault(volume: &[u8], offset: usize) -> u64
     if MAX_LINKS < count {
         return OVER_LIMIT;
     }
-    end_fault(volume, offset, from, count)
+    end_fault(tables, volume, offset, from, count)
 }
 
 // The link table at `offset`.

@@ -10,13 +10,15 @@ ghost use mathlib.Core.Path.{_≡_};
 ghost use Prim.Native.Nat.{_+_, _≤_, _<_};
 ghost use lib.ListN.{length};
 ghost use Rattle.format.specs.Blocks.{xattrBlock, removedXattrBlock};
+ghost use Rattle.crc32.specs.inner.Tables.{Lent};
 ghost use Rattle.checks.specs.Checks.{firstFault};
 ghost use Rattle.block.specs.Order.{kindOrder};
 ghost use Rattle.block.specs.inner.Decoded.{decodedOf};
 ghost use Rattle.block.specs.Fields.{bodyEnd};
 
 // The first fault of the xattr block at `offset`. Its value is raw bytes.
-pub(crate) fn xattr_fault(volume: &[u8], offset: usize) -> u64
+pub(crate) fn xattr_fault(tables: &[u32], volume: &[u8], offset: usize) -> u64
+    requires { ⌜ Lent (now tables) ⌝ }
     requires { ⌜ offset < length (now volume) ⌝ }
     ensures { λ r. ⌜ r ≡ firstFault (kindOrder xattrBlock (now (volume .entry)) offset) ⌝ }
 {
@@ -26,11 +28,12 @@ pub(crate) fn xattr_fault(volume: &[u8], offset: usize) -> u64
     }
     let n = number::read_u8(volume, offset + 17) as usize;
     let m = number::read_u16(volume, offset + 18) as usize;
-    text_fault(volume, offset, from, n, n + m)
+    text_fault(tables, volume, offset, from, n, n + m)
 }
 
 // The first fault of the removed xattr block at `offset`.
-pub(crate) fn removed_xattr_fault(volume: &[u8], offset: usize) -> u64
+pub(crate) fn removed_xattr_fault(tables: &[u32], volume: &[u8], offset: usize) -> u64
+    requires { ⌜ Lent (now tables) ⌝ }
     requires { ⌜ offset < length (now volume) ⌝ }
     ensures { λ r. ⌜ r ≡ firstFault (kindOrder removedXattrBlock (now (volume .entry)) offset) ⌝ }
 {
@@ -39,7 +42,7 @@ pub(crate) fn removed_xattr_fault(volume: &[u8], offset: usize) -> u64
         return CUT_SHORT;
     }
     let n = number::read_u8(volume, offset + 17) as usize;
-    text_fault(volume, offset, from, n, n)
+    text_fault(tables, volume, offset, from, n, n)
 }
 
 // The xattr block at `offset`.

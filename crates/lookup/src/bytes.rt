@@ -1,4 +1,5 @@
 // Fetching stored bytes: the very part of one of two lent volumes.
+use block::lending::NO_TABLES;
 use format::Physical;
 use refusal::NOT_THERE;
 ghost use mathlib.Core.Path.{_≡_};
@@ -39,11 +40,11 @@ fn is_out_of(first: &[u8], second: &[u8], number: u64, offset: Physical, len: u6
 pub fn fetch_refusal(first: &[u8], second: &[u8], number: u64, offset: Physical, len: u64) -> u64
     ensures { λ r. ⌜ r ≡ fetchFault (now (first .entry)) (now (second .entry)) number (offset .0) len ⌝ }
 {
-    let fault = volume::heading::header_fault(first);
+    let fault = volume::heading::header_fault(&NO_TABLES, first);
     if fault != 0 {
         return fault;
     }
-    let fault2 = volume::heading::header_fault(second);
+    let fault2 = volume::heading::header_fault(&NO_TABLES, second);
     if fault2 != 0 {
         return fault2;
     }

@@ -2,6 +2,7 @@
 use crate::presence::ENTRY_LEN;
 use crate::presence::some_absent;
 use crate::presence::some_stray;
+use block::lending::NO_TABLES;
 use refusal::NOT_REGULAR_FILE;
 use refusal::NOT_THERE;
 use refusal::OVER_LIMIT;
@@ -62,7 +63,7 @@ fn open_fault(volume: &[u8], offset: usize, lengths: &[u8]) -> u64
     if lengths_wrong(lengths) {
         return OVER_LIMIT;
     }
-    let fault = block::block_fault(volume, offset, false);
+    let fault = block::block_fault(&NO_TABLES, volume, offset, false);
     if fault != 0 {
         return fault;
     }

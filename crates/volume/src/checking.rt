@@ -5,17 +5,21 @@ use crate::HeaderAnswer;
 use crate::ReadAnswer;
 use crate::Rejected;
 use crate::Verdict;
-use crate::heading::read_header;
+use crate::heading::read_header_by;
+use block::lending::FILL_FROM;
+use block::lending::NO_TABLES;
 ghost use mathlib.Core.Path.{_≡_};
+ghost use Rattle.crc32.specs.inner.Tables.{Lent};
 ghost use Rattle.volume.specs.inner.Check.{checkFrom, checkAnswer};
 
 // The check from a bookmark on.
-fn check_from(volume: &[u8], sequence: u64, first: Bookmark) -> Verdict
+fn check_from(tables: &[u32], volume: &[u8], sequence: u64, first: Bookmark) -> Verdict
+    requires { ⌜ Lent (now tables) ⌝ }
     ensures { λ r. ⌜ r ≡ checkFrom (now (volume .entry)) sequence first ⌝ }
 {
     let mut mark = first;
     loop {
-        match mark.read(volume) {
+        match mark.read_by(tables, volume) {
             ReadAnswer::End => {
                 return Verdict::Accepted(Accepted {
                     sequence,
@@ -36,16 +40,37 @@ fn check_from(volume: &[u8], sequence: u64, first: Bookmark) -> Verdict
     }
 }
 
-// Checks a whole volume: accepted, with its end bookmark, or refused, and where.
-pub fn check(volume: &[u8]) -> Verdict
+// The check of a whole volume with lent tables.
+fn check_by(tables: &[u32], volume: &[u8]) -> Verdict
+    requires { ⌜ Lent (now tables) ⌝ }
     ensures { λ r. ⌜ r ≡ checkAnswer (now (volume .entry)) ⌝ }
 {
-    match read_header(volume) {
+    match read_header_by(tables, volume) {
         HeaderAnswer::Refused(refusal) => Verdict::Refused(Rejected {
             refusal,
             offset: 0,
             blocks: 0,
         }),
-        HeaderAnswer::Accepted(header) => check_from(volume, header.sequence, header.next),
+        HeaderAnswer::Accepted(header) => check_from(tables, volume, header.sequence, header.next),
     }
+}
+
+// The check of a whole volume with tables filled for it. They stand in a function of their own: a check that fills none
+// shall not clear them either.
+fn check_filled(volume: &[u8]) -> Verdict
+    ensures { λ r. ⌜ r ≡ checkAnswer (now (volume .entry)) ⌝ }
+{
+    let mut tables = [0u32; 4096];
+    crc32::fill(&mut tables);
+    check_by(&tables, volume)
+}
+
+// Checks a whole volume: accepted, with its end bookmark, or refused, and where.
+pub fn check(volume: &[u8]) -> Verdict
+    ensures { λ r. ⌜ r ≡ checkAnswer (now (volume .entry)) ⌝ }
+{
+    if volume.len() < FILL_FROM {
+        return check_by(&NO_TABLES, volume);
+    }
+    check_filled(volume)
 }

@@ -4,6 +4,7 @@ use crate::HeaderAnswer;
 use crate::HeaderRead;
 use crate::LastTime;
 use crate::WriteAnswer;
+use block::lending::NO_TABLES;
 use block::limits::HEADER_LEN;
 use block::limits::VOLUME_LIMIT;
 use refusal::CHECKSUM_WRONG;
@@ -18,6 +19,7 @@ use refusal::refuse;
 ghost use mathlib.Core.Path.{_≡_};
 ghost use Prim.Native.Nat.{_-_, _≤_};
 ghost use lib.ListN.{length};
+ghost use Rattle.crc32.specs.inner.Tables.{Lent};
 ghost use Rattle.checks.specs.Checks.{firstFault};
 ghost use Rattle.volume.specs.Heading.{hashWrong, fieldOrder, headerFault, firstMark, headerAnswer};
 ghost use Rattle.volume.specs.Heading.{fieldAnswer, fieldAddress};
@@ -40,7 +42,8 @@ fn hash_wrong(sequence: u64, previous: &[u8]) -> bool
 }
 
 // The first fault among the fields of a header that is whole.
-fn field_fault(volume: &[u8]) -> u64
+fn field_fault(tables: &[u32], volume: &[u8]) -> u64
+    requires { ⌜ Lent (now tables) ⌝ }
     requires { ⌜ 80 ≤ length (now volume) ⌝ }
     ensures { λ r. ⌜ r ≡ firstFault (fieldOrder (now (volume .entry))) ⌝ }
 {
@@ -56,7 +59,7 @@ fn field_fault(volume: &[u8]) -> u64
     if number::read_u8(volume, 35) != 0 {
         return VERSION_UNKNOWN;
     }
-    if block::sum_wrong(volume, 0, 76) {
+    if block::sum_wrong(tables, volume, 0, 76) {
         return CHECKSUM_WRONG;
     }
     if hash_wrong(number::read_u64(volume, 36), &volume[44..76]) {
@@ -66,7 +69,8 @@ fn field_fault(volume: &[u8]) -> u64
 }
 
 // Internal: the first fault of a volume's header, or 0.
-pub fn header_fault(volume: &[u8]) -> u64
+pub fn header_fault(tables: &[u32], volume: &[u8]) -> u64
+    requires { ⌜ Lent (now tables) ⌝ }
     ensures { λ r. ⌜ r ≡ headerFault (now (volume .entry)) ⌝ }
 {
     if VOLUME_LIMIT < volume.len() {
@@ -75,7 +79,7 @@ pub fn header_fault(volume: &[u8]) -> u64
     if volume.len() < HEADER_LEN {
         return CUT_SHORT;
     }
-    field_fault(volume)
+    field_fault(tables, volume)
 }
 
 // The bookmark after a header.
@@ -94,7 +98,15 @@ pub(crate) fn first_mark(sequence: u64) -> Bookmark
 pub fn read_header(volume: &[u8]) -> HeaderAnswer
     ensures { λ r. ⌜ r ≡ headerAnswer (now (volume .entry)) ⌝ }
 {
-    let fault = header_fault(volume);
+    read_header_by(&NO_TABLES, volume)
+}
+
+// Internal: the same with lent tables, for a walk that goes on to the blocks.
+pub fn read_header_by(tables: &[u32], volume: &[u8]) -> HeaderAnswer
+    requires { ⌜ Lent (now tables) ⌝ }
+    ensures { λ r. ⌜ r ≡ headerAnswer (now (volume .entry)) ⌝ }
+{
+    let fault = header_fault(tables, volume);
     if fault != 0 {
         return HeaderAnswer::Refused(refuse(fault));
     }
@@ -109,7 +121,7 @@ fn handed_out(volume: &[u8], from: usize, to: usize) -> &[u8]
     ensures bytes { λ r. ⌜ now r ≡ partAnswer (now (volume .entry)) from (to - from) ⌝ }
     ensures address { λ r. ⌜ r .ptr ≡ partAddress (now (volume .entry)) (volume .entry .ptr) from ⌝ }
 {
-    if header_fault(volume) != 0 {
+    if header_fault(&NO_TABLES, volume) != 0 {
         return &volume[0..0];
     }
     &volume[from..to]

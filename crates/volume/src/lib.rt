@@ -3,6 +3,7 @@
 // Public calls: read_header, file_system_id, previous_hash, Bookmark::read, check; write_header, and the methods of a
 // bookmark that append a block: append_inode, append_link, append_unlink, append_xattr, append_removed_xattr,
 // append_data, append_rename, append_table.
+// `tables` is empty, or the tables of crc32: filled once by a walk and lent to the header and every block. A single call lends none.
 pub mod checking;
 pub mod heading;
 pub mod reading;

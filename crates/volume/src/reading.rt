@@ -4,6 +4,7 @@ use crate::Found;
 use crate::LastTime;
 use crate::ReadAnswer;
 use block::Block;
+use block::lending::NO_TABLES;
 use block::limits::HEADER_LEN;
 use block::limits::VOLUME_LIMIT;
 use refusal::OVER_LIMIT;
@@ -12,6 +13,7 @@ use refusal::refuse;
 use texts::refusal_at;
 ghost use mathlib.Core.Path.{_≡_};
 ghost use Prim.Native.Nat.{_<_};
+ghost use Rattle.crc32.specs.inner.Tables.{Lent};
 ghost use Rattle.checks.specs.Checks.{firstFault};
 ghost use Rattle.format.specs.Extents.{top};
 ghost use Rattle.block.specs.inner.Decoded.{timeOfBlock};
@@ -114,13 +116,21 @@ impl Bookmark {
     pub fn read(self, volume: &[u8]) -> ReadAnswer
         ensures { λ r. ⌜ r ≡ readAnswer (now (volume .entry)) self ⌝ }
     {
+        self.read_by(&NO_TABLES, volume)
+    }
+
+    // Internal: the same with lent tables, for a walk over many blocks.
+    pub fn read_by(self, tables: &[u32], volume: &[u8]) -> ReadAnswer
+        requires { ⌜ Lent (now tables) ⌝ }
+        ensures { λ r. ⌜ r ≡ readAnswer (now (volume .entry)) self ⌝ }
+    {
         let offset = self.offset;
         let due = self.due;
         let number = self.number;
         if is_end(volume, self) {
             return ReadAnswer::End;
         }
-        let fault = block::block_fault(volume, offset, due);
+        let fault = block::block_fault(tables, volume, offset, due);
         if fault != 0 {
             return ReadAnswer::Refused(refusal_at(volume, offset, fault));
         }

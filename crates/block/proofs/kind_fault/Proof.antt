@@ -59,7 +59,7 @@ unfolding kindWith
 returns-7 c = rw (c .before .match .keys7) (c .rename-fault .ensures)
 
 returns-8 : tie.Need-returns-8
-returns-8 c = rw (last-kind (c .before .before .before .args .id) (c .before .match .rest)) (c .table-fault .ensures)
+returns-8 c = rw (last-kind (c .before .before .before .before .args .id) (c .before .match .rest)) (c .table-fault .ensures)
 
 pub kind-fault-spec : {M : Type 1} → statement M
 kind-fault-spec =

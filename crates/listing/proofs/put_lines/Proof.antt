@@ -13,30 +13,30 @@ use Rattle.listing.proofs.put_lines.Statement.{statement}
 use Rattle.listing.proofs.put_lines.Tie as tie
 
 abbrev Inv-loop : tie.InvT-loop
-Inv-loop volume out₀ at first place₀ out mark place = Reached volume out₀ at first out mark place
+Inv-loop tables volume out₀ at first place₀ out mark place = Reached volume out₀ at first out mark place
 
 abbrev μ-loop : tie.MeasureT-loop
-μ-loop volume out₀ at first place₀ out mark place = length volume - mark .offset
+μ-loop tables volume out₀ at first place₀ out mark place = length volume - mark .offset
 
 loop-holds : tie.Need-loop-holds Inv-loop μ-loop
 loop-holds c =
-    let a = c .before .before .args in
-    start (a .volume .now) (a .out .now) (a .at) (a .first) (c .before .before .pre)
+    let a = c .before .before .before .args in
+    start (a .volume .now) (a .out .now) (a .at) (a .first) (c .before .before .before .pre .1)
 
-read-requires : tie.Need-read-requires Inv-loop μ-loop
-read-requires c κs = search needs
+read-by-requires : tie.Need-read-by-requires Inv-loop μ-loop
+read-by-requires c κs = search needs
 
 enum-known-found : tie.Need-enum-known-found Inv-loop μ-loop
 enum-known-found c = search needs
 
 -- the reading found a block, and the next bookmark is further on and within the volume
 found : (c : tie.After-found Inv-loop μ-loop)
-    → readAnswer (c .before .before .before .before .before .before .args .volume .now) (c .before .before .before .loop .mark) ≡ ReadAnswer.Found (c .found .given .0 .0)
-found c = sym (c .before .before .read .ensures) ∙ c .found .given .1
+    → readAnswer (c .before .before .before .before .before .before .before .args .volume .now) (c .before .before .before .loop .mark) ≡ ReadAnswer.Found (c .found .given .0 .0)
+found c = sym (c .before .before .read-by .ensures) ∙ c .found .given .1
 
 further : (c : tie.After-found Inv-loop μ-loop)
     → (c .before .before .before .loop .mark .offset < c .found .given .0 .0 .next .offset)
-    × (c .found .given .0 .0 .next .offset ≤ length (c .before .before .before .before .before .before .args .volume .now))
+    × (c .found .given .0 .0 .next .offset ≤ length (c .before .before .before .before .before .before .before .args .volume .now))
 further c = read-further _ _ _ (found c)
 
 read-u8-requires : tie.Need-read-u8-requires Inv-loop μ-loop
@@ -64,12 +64,12 @@ enum-told c = search needs
 
 end-line-requires : tie.Need-end-line-requires Inv-loop μ-loop
 unfolding onRead
-end-line-requires c κs = left-fits (c .before .before .before .before .loop .inv) (sym (c .before .before .before .read .ensures) ∙ c .before .enum-told .given .1)
+end-line-requires c κs = left-fits (c .before .before .before .before .loop .inv) (sym (c .before .before .before .read-by .ensures) ∙ c .before .enum-told .given .1)
 
 returns : tie.Need-returns Inv-loop μ-loop
 unfolding onRead
 returns c =
-    left-written (c .before .before .before .before .before .before .before .loop .inv) (sym (c .before .before .before .before .before .before .read .ensures) ∙ c .before .before .before .before .enum-told .given .1) _ _
+    left-written (c .before .before .before .before .before .before .before .loop .inv) (sym (c .before .before .before .before .before .before .read-by .ensures) ∙ c .before .before .before .before .enum-told .given .1) _ _
     (c .before .before .end-line .ensures)
 
 same-length : tie.Need-same-length Inv-loop μ-loop
@@ -80,12 +80,12 @@ enum-known-why c = search needs
 
 refused-line-requires : tie.Need-refused-line-requires Inv-loop μ-loop
 unfolding onRead
-refused-line-requires c κs = left-fits (c .before .before .before .before .before .loop .inv) (sym (c .before .before .before .before .read .ensures) ∙ c .before .before .why .given .1)
+refused-line-requires c κs = left-fits (c .before .before .before .before .before .loop .inv) (sym (c .before .before .before .before .read-by .ensures) ∙ c .before .before .why .given .1)
 
 returns-2 : tie.Need-returns-2 Inv-loop μ-loop
 unfolding onRead
 returns-2 c =
-    left-written (c .before .before .before .before .before .before .before .before .loop .inv) (sym (c .before .before .before .before .before .before .before .read .ensures) ∙ c .before .before .before .before .before .why .given .1) _ _
+    left-written (c .before .before .before .before .before .before .before .before .loop .inv) (sym (c .before .before .before .before .before .before .before .read-by .ensures) ∙ c .before .before .before .before .before .why .given .1) _ _
     (c .before .before .refused-line .ensures)
 
 same-length-2 : tie.Need-same-length-2 Inv-loop μ-loop
@@ -98,7 +98,7 @@ put-lines-spec =
     Inv-loop
     μ-loop
     loop-holds
-    read-requires
+    read-by-requires
     enum-known-found
     read-u8-requires
     sub-len

@@ -36,14 +36,14 @@ unfolding listing
 after volume h e = rw (le-ltb listLimit (length volume) h, e)
 
 sound : (c : tie.After-header)
-    → listing (c .before .before .before .before .before .before .before .before .before .before .before .args .volume .now) ≡ headingLine ++ linesFrom (c .before .before .before .before .before .before .before .before .before .before .before .args .volume .now) (c .header .given .0 .0 .next)
+    → listing (c .before .before .before .before .before .before .before .before .before .before .before .before .args .volume .now) ≡ headingLine ++ linesFrom (c .before .before .before .before .before .before .before .before .before .before .before .before .args .volume .now) (c .header .given .0 .0 .next)
 unfolding afterHeading
-sound c = after _ (c .before .before .before .if1 .left) (sym (c .before .before .read-header .ensures) ∙ c .header .given .1)
+sound c = after _ (c .before .before .before .if1 .left) (sym (c .before .before .read-header-by .ensures) ∙ c .header .given .1)
 
 unsound : (c : tie.After-why)
-    → listing (c .before .before .before .before .before .before .before .before .before .before .before .args .volume .now) ≡ headingLine ++ refusedLine (c .why .given .0 .0 .number) 0
+    → listing (c .before .before .before .before .before .before .before .before .before .before .before .before .args .volume .now) ≡ headingLine ++ refusedLine (c .why .given .0 .0 .number) 0
 unfolding afterHeading
-unsound c = after _ (c .before .before .before .if1 .left) (sym (c .before .before .read-header .ensures) ∙ c .why .given .1)
+unsound c = after _ (c .before .before .before .if1 .left) (sym (c .before .before .read-header-by .ensures) ∙ c .why .given .1)
 
 slice-aggregate-put-word : tie.Need-slice-aggregate-put-word
 slice-aggregate-put-word c = search needs
@@ -52,7 +52,7 @@ put-word-requires : tie.Need-put-word-requires
 put-word-requires c κs = search needs
 
 refused-line-requires : tie.Need-refused-line-requires
-refused-line-requires c κs = rest-fits _ (over (c .before .before .before .before .before .before .before .before .before .args .volume .now) (c .before .if1 .taken)) (c .before .before .before .before .put-word .ensures)
+refused-line-requires c κs = rest-fits _ (over (c .before .before .before .before .before .before .before .before .before .before .args .volume .now) (c .before .if1 .taken)) (c .before .before .before .before .put-word .ensures)
 
 same-length : tie.Need-same-length
 same-length c = search needs
@@ -60,14 +60,14 @@ same-length c = search needs
 returns : tie.Need-returns
 returns c = rest-written (over _ (c .before .before .before .before .if1 .taken)) (c .before .before .before .before .before .before .before .put-word .ensures) (c .before .before .refused-line .ensures)
 
-read-header-requires : tie.Need-read-header-requires
-read-header-requires c κs = search needs
+read-header-by-requires : tie.Need-read-header-by-requires
+read-header-by-requires c κs = search needs
 
 enum-known-header : tie.Need-enum-known-header
 enum-known-header c = search needs
 
 put-lines-requires : tie.Need-put-lines-requires
-put-lines-requires c κs = rest-fits _ (sound (c .before .before .before)) (c .before .before .before .before .before .before .before .before .before .put-word .ensures)
+put-lines-requires c κs = (search needs, rest-fits _ (sound (c .before .before .before)) (c .before .before .before .before .before .before .before .before .before .put-word .ensures))
 
 enum-known-why : tie.Need-enum-known-why
 enum-known-why c = search needs
@@ -96,7 +96,7 @@ put-listing-spec =
     refused-line-requires
     same-length
     returns
-    read-header-requires
+    read-header-by-requires
     enum-known-header
     put-lines-requires
     enum-known-why

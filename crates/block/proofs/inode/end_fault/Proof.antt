@@ -11,9 +11,9 @@ use Rattle.block.proofs.Passed.{end-whole}
 use Rattle.block.proofs.inode.end_fault.Statement.{statement}
 use Rattle.block.proofs.inode.end_fault.Tie as tie
 
-whole : (c : tie.Else1) → let a = c .before .before .before .args in a .from + a .n + 4 ≤ length (a .volume .now)
+whole : (c : tie.Else1) → let a = c .before .before .before .before .args in a .from + a .n + 4 ≤ length (a .volume .now)
 whole c =
-    let a = c .before .before .before .args in
+    let a = c .before .before .before .before .args in
     end-whole (a .volume .now) (a .offset) (a .from + a .n) [] tt (c .before .sealed-fault .ensures) (c .if1 .left)
 
 sealed-fault-requires : tie.Need-sealed-fault-requires
@@ -21,7 +21,7 @@ sealed-fault-requires c κs = search needs
 
 returns : tie.Need-returns
 returns c =
-    let a = c .before .before .before .args in
+    let a = c .before .before .before .before .args in
     stopped (sealedOrder (a .volume .now) (a .offset) (a .from + a .n)) _ tt (c .before .sealed-fault .ensures) (c .if1 .taken)
 
 add-rest-fault : tie.Need-add-rest-fault
@@ -38,12 +38,12 @@ part-rest-fault-end c = omega (arith, whole c)
 
 rest-fault-requires : tie.Need-rest-fault-requires
 rest-fault-requires c κs =
-    let a = c .before .before .before .before .args in
-    rw (span-length (a .volume .now) (a .from) (a .n) (omega (arith, whole (c .before)))) (c .before .before .before .before .pre .2)
+    let a = c .before .before .before .before .before .args in
+    rw (span-length (a .volume .now) (a .from) (a .n) (omega (arith, whole (c .before)))) (c .before .before .before .before .before .pre .1 .2)
 
 returns-2 : tie.Need-returns-2
 returns-2 c =
-    let a = c .before .before .before .before .before .args in
+    let a = c .before .before .before .before .before .before .args in
     continued
     (sealedOrder (a .volume .now) (a .offset) (a .from + a .n))
     _

@@ -39,7 +39,7 @@ is-too-long-requires c κs = search needs
 returns-2 : tie.Need-returns-2
 unfolding bodyLength
 returns-2 c =
-    let a = c .before .before .before .before .before .before .before .args in
+    let a = c .before .before .before .before .before .before .before .before .args in
     fields-there
     inodeBlock
     (a .volume .now)
@@ -50,12 +50,12 @@ returns-2 c =
     (decided (hit (told (c .before .is-too-long .ensures) (c .if2 .taken)))))
 
 end-fault-requires : tie.Need-end-fault-requires
-end-fault-requires c κs = (search needs, search needs, told (c .before .is-too-long .ensures) (c .if2 .left))
+end-fault-requires c κs = (search needs, (search needs, search needs, told (c .before .is-too-long .ensures) (c .if2 .left)))
 
 returns-3 : tie.Need-returns-3
 unfolding bodyLength
 returns-3 c =
-    let a = c .before .before .before .before .before .before .before .before .args in
+    let a = c .before .before .before .before .before .before .before .before .before .args in
     fields-there
     inodeBlock
     (a .volume .now)

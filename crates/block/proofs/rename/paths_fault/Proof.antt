@@ -10,9 +10,9 @@ use Rattle.block.proofs.Passed.{end-whole}
 use Rattle.block.proofs.rename.paths_fault.Statement.{statement}
 use Rattle.block.proofs.rename.paths_fault.Tie as tie
 
-whole : (c : tie.Else1) → let a = c .before .before .before .args in a .from + (a .n + a .m) + 4 ≤ length (a .volume .now)
+whole : (c : tie.Else1) → let a = c .before .before .before .before .args in a .from + (a .n + a .m) + 4 ≤ length (a .volume .now)
 whole c =
-    let a = c .before .before .before .args in
+    let a = c .before .before .before .before .args in
     end-whole (a .volume .now) (a .offset) (a .from + (a .n + a .m)) _ tt (c .before .text-fault .ensures) (c .if1 .left)
 
 add-text-fault : tie.Need-add-text-fault
@@ -23,7 +23,7 @@ text-fault-requires c κs = search needs
 
 returns : tie.Need-returns
 returns c =
-    let a = c .before .before .before .args in
+    let a = c .before .before .before .before .args in
     stopped (textOrder (a .volume .now) (a .offset) (a .from) (a .n) (a .n + a .m)) _ tt (c .before .text-fault .ensures) (c .if1 .taken)
 
 add-middle : tie.Need-add-middle
@@ -46,7 +46,7 @@ is-text-requires c κs = search needs
 
 returns-2 : tie.Need-returns-2
 returns-2 c =
-    let a = c .before .before .before .before .before .before .args in
+    let a = c .before .before .before .before .before .before .before .args in
     text-next
     (textOrder (a .volume .now) (a .offset) (a .from) (a .n) (a .n + a .m))
     (a .volume .now)
@@ -60,7 +60,7 @@ returns-2 c =
 
 returns-3 : tie.Need-returns-3
 returns-3 c =
-    let a = c .before .before .before .before .before .before .args in
+    let a = c .before .before .before .before .before .before .before .args in
     text-next
     (textOrder (a .volume .now) (a .offset) (a .from) (a .n) (a .n + a .m))
     (a .volume .now)

@@ -11,10 +11,10 @@ use Rattle.block.proofs.Passed.{end-whole}
 use Rattle.block.proofs.table.end_fault.Statement.{statement}
 use Rattle.block.proofs.table.end_fault.Tie as tie
 
-whole : (c : tie.Else1) → let a = c .before .before .before .before .args in
+whole : (c : tie.Else1) → let a = c .before .before .before .before .before .args in
     a .from + c .before .before .len-of-links .result + 4 ≤ length (a .volume .now)
 whole c =
-    let a = c .before .before .before .before .args in
+    let a = c .before .before .before .before .before .args in
     end-whole (a .volume .now) (a .offset) (a .from + c .before .before .len-of-links .result) [] tt
     (c .before .sealed-fault .ensures) (c .if1 .left)
 
@@ -26,7 +26,7 @@ sealed-fault-requires c κs = search needs
 
 returns : tie.Need-returns
 returns c =
-    let a = c .before .before .before .before .args in
+    let a = c .before .before .before .before .before .args in
     rw (← c .before .before .len-of-links .ensures)
     (stopped (sealedOrder (a .volume .now) (a .offset) (a .from + c .before .before .len-of-links .result)) _ tt
     (c .before .sealed-fault .ensures) (c .if1 .taken))
@@ -46,7 +46,7 @@ links-fault-requires c κs = rw (part-onward, length-drop)
 
 returns-2 : tie.Need-returns-2
 returns-2 c =
-    let a = c .before .before .before .before .before .before .args in
+    let a = c .before .before .before .before .before .before .before .args in
     rw (← c .before .before .before .before .len-of-links .ensures)
     (continued
     (sealedOrder (a .volume .now) (a .offset) (a .from + c .before .before .before .before .len-of-links .result))

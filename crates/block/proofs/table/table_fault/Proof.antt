@@ -25,7 +25,7 @@ read-u64-requires c κs = search needs
 returns-2 : tie.Need-returns-2
 unfolding bodyLength
 returns-2 c =
-    let a = c .before .before .before .before .args in
+    let a = c .before .before .before .before .before .args in
     fields-there
     linkTable
     (a .volume .now)
@@ -40,7 +40,7 @@ end-fault-requires c κs = search needs
 returns-3 : tie.Need-returns-3
 unfolding bodyLength
 returns-3 c =
-    let a = c .before .before .before .before .before .args in
+    let a = c .before .before .before .before .before .before .args in
     fields-there
     linkTable
     (a .volume .now)

@@ -11,9 +11,9 @@ use Rattle.block.proofs.Passed.{end-whole}
 use Rattle.block.proofs.text.text_fault.Statement.{statement}
 use Rattle.block.proofs.text.text_fault.Tie as tie
 
-whole : (c : tie.Else1) → let a = c .before .before .before .args in a .from + a .len + 4 ≤ length (a .volume .now)
+whole : (c : tie.Else1) → let a = c .before .before .before .before .args in a .from + a .len + 4 ≤ length (a .volume .now)
 whole c =
-    let a = c .before .before .before .args in
+    let a = c .before .before .before .before .args in
     end-whole (a .volume .now) (a .offset) (a .from + a .len) [] tt (c .before .sealed-fault .ensures) (c .if1 .left)
 
 sealed-fault-requires : tie.Need-sealed-fault-requires
@@ -21,7 +21,7 @@ sealed-fault-requires c κs = search needs
 
 returns : tie.Need-returns
 returns c =
-    let a = c .before .before .before .args in
+    let a = c .before .before .before .before .args in
     stopped (sealedOrder (a .volume .now) (a .offset) (a .from + a .len)) _ tt (c .before .sealed-fault .ensures) (c .if1 .taken)
 
 add-is-text : tie.Need-add-is-text
@@ -41,7 +41,7 @@ is-text-requires c κs = search needs
 
 returns-2 : tie.Need-returns-2
 returns-2 c =
-    let a = c .before .before .before .before .before .before .args in
+    let a = c .before .before .before .before .before .before .before .args in
     text-next
     (sealedOrder (a .volume .now) (a .offset) (a .from + a .len))
     (a .volume .now)
@@ -55,7 +55,7 @@ returns-2 c =
 
 returns-3 : tie.Need-returns-3
 returns-3 c =
-    let a = c .before .before .before .before .before .before .args in
+    let a = c .before .before .before .before .before .before .before .args in
     text-next
     (sealedOrder (a .volume .now) (a .offset) (a .from + a .len))
     (a .volume .now)

@@ -1,37 +1,24 @@
--- The header decides first; a sound one is followed by the check of the blocks.
-use mathlib.Core.Path.{sym, ap, _∙_}
-use Rattle.volume.specs.inner.Check.{afterHeader, checkAnswer}
+-- A short volume is checked without tables: what is lent is empty.
+use mathlib.Core.Path.{refl}
+use mathlib.Core.Logic.{inl}
 use borrow.Author.Needs.{needs}
 use Rattle.volume.proofs.checking.check.Statement.{statement}
 use Rattle.volume.proofs.checking.check.Tie as tie
 
-read-header-requires : tie.Need-read-header-requires
-read-header-requires c κs = search needs
+slice-aggregate-check-by : tie.Need-slice-aggregate-check-by
+slice-aggregate-check-by c = search needs
 
-enum-known-refusal : tie.Need-enum-known-refusal
-enum-known-refusal c = search needs
-
-enum-known-header : tie.Need-enum-known-header
-enum-known-header c = search needs
-
-check-from-requires : tie.Need-check-from-requires
-check-from-requires c κs = search needs
+check-by-requires : tie.Need-check-by-requires
+check-by-requires c κs = inl refl
 
 returns : tie.Need-returns
-unfolding afterHeader checkAnswer
-returns c = ap (afterHeader _) (sym (c .before .refusal .given .1) ∙ c .before .before .before .read-header .ensures)
+returns c = search needs
+
+check-filled-requires : tie.Need-check-filled-requires
+check-filled-requires c κs = search needs
 
 returns-2 : tie.Need-returns-2
-unfolding afterHeader checkAnswer
-returns-2 c = c .check-from .ensures ∙ ap (afterHeader _) (sym (c .before .before .header .given .1) ∙ c .before .before .before .before .read-header .ensures)
+returns-2 c = search needs
 
 pub check-spec : {M : Type 1} → statement M
-check-spec =
-    tie.close
-    (tie.spec
-    read-header-requires
-    enum-known-refusal
-    enum-known-header
-    check-from-requires
-    returns
-    returns-2)
+check-spec = tie.close (tie.spec slice-aggregate-check-by check-by-requires returns check-filled-requires returns-2)

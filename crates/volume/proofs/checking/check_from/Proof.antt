@@ -14,16 +14,16 @@ use Rattle.volume.proofs.checking.check_from.Statement.{statement}
 use Rattle.volume.proofs.checking.check_from.Tie as tie
 
 abbrev Inv-loop : tie.InvT-loop
-Inv-loop volume sequence mark₀ mark = checkFrom volume sequence mark₀ ≡ checkFrom volume sequence mark
+Inv-loop tables volume sequence mark₀ mark = checkFrom volume sequence mark₀ ≡ checkFrom volume sequence mark
 
 abbrev μ-loop : tie.MeasureT-loop
-μ-loop volume sequence mark₀ mark = length volume - mark .offset
+μ-loop tables volume sequence mark₀ mark = length volume - mark .offset
 
 loop-holds : tie.Need-loop-holds Inv-loop μ-loop
 loop-holds c = refl
 
-read-requires : tie.Need-read-requires Inv-loop μ-loop
-read-requires c κs = search needs
+read-by-requires : tie.Need-read-by-requires Inv-loop μ-loop
+read-by-requires c κs = search needs
 
 enum-told : tie.Need-enum-told Inv-loop μ-loop
 enum-told c = search needs
@@ -33,7 +33,7 @@ unfolding onRead
 returns c =
     let r = c .before .before in
     let l = r .before in
-    sym (l .loop .inv ∙ walk-step _ (checkWay _) _ (sym (r .read .ensures) ∙ c .enum-told .given .1))
+    sym (l .loop .inv ∙ walk-step _ (checkWay _) _ (sym (r .read-by .ensures) ∙ c .enum-told .given .1))
 
 enum-known-refusal : tie.Need-enum-known-refusal Inv-loop μ-loop
 enum-known-refusal c = search needs
@@ -43,15 +43,15 @@ unfolding onRead
 returns-2 c =
     let r = c .before .before .before in
     let l = r .before in
-    sym (l .loop .inv ∙ walk-step _ (checkWay _) _ (sym (r .read .ensures) ∙ c .before .refusal .given .1))
+    sym (l .loop .inv ∙ walk-step _ (checkWay _) _ (sym (r .read-by .ensures) ∙ c .before .refusal .given .1))
 
 enum-known-found : tie.Need-enum-known-found Inv-loop μ-loop
 enum-known-found c = search needs
 
 -- the reading found a block
 found : (c : tie.After-mark Inv-loop μ-loop) → let r = c .before .before .before .before in
-    readAnswer (r .before .before .before .args .volume .now) (r .before .loop .mark) ≡ ReadAnswer.Found (c .before .before .found .given .0 .0)
-found c = sym (c .before .before .before .before .read .ensures) ∙ c .before .before .found .given .1
+    readAnswer (r .before .before .before .before .args .volume .now) (r .before .loop .mark) ≡ ReadAnswer.Found (c .before .before .found .given .0 .0)
+found c = sym (c .before .before .before .before .read-by .ensures) ∙ c .before .before .found .given .1
 
 loop-less : tie.Need-loop-less Inv-loop μ-loop
 loop-less c = omega (arith, read-further _ _ _ (found c))
@@ -67,7 +67,7 @@ check-from-spec =
     Inv-loop
     μ-loop
     loop-holds
-    read-requires
+    read-by-requires
     enum-told
     returns
     enum-known-refusal
