@@ -1,5 +1,5 @@
-//! Inputs for benchmarks. All are accepted but those with a name at fault, and all volumes but that
-//! of [`copies`] have 16 MiB.
+//! Inputs for benchmarks. All are accepted but those with a name at fault, and all volumes have
+//! 16 MiB but that of [`copies`] and what is asked of [`data_blocks`].
 
 use std::ops::Range;
 
@@ -24,9 +24,10 @@ pub struct Input {
 /// All inputs of this file, made one at a time.
 pub fn inputs() -> impl Iterator<Item = Input> {
     type Make = fn() -> Vec<u8>;
-    let list: [(&'static str, Make); 10] = [
+    let list: [(&'static str, Make); 11] = [
         ("one data block", one_data_block),
-        ("data blocks of 100 bytes", small_data_blocks),
+        ("data blocks of 1,000 bytes", || data_blocks(LIMIT, 1_000)),
+        ("data blocks of 100 bytes", || data_blocks(LIMIT, 100)),
         ("mixed blocks of 100 bytes", small_mixed_blocks),
         ("1,024 extents, rising", || inodes(Order::Rising)),
         ("1,024 extents, falling", || inodes(Order::Falling)),
@@ -58,7 +59,12 @@ fn start(sequence: u64) -> Vec<u8> {
 
 /// Fills up to 16 MiB with one data block, if there is room for one.
 fn fill(volume: &mut Vec<u8>, time: u64) {
-    if let Some(length) = (LIMIT - volume.len()).checked_sub(21) {
+    fill_to(LIMIT, volume, time);
+}
+
+/// The same up to another length.
+fn fill_to(end: usize, volume: &mut Vec<u8>, time: u64) {
+    if let Some(length) = (end - volume.len()).checked_sub(21) {
         let payload = Rng::new(time).bytes(length);
         volume.extend_from_slice(&image::data(time, &payload));
     }
@@ -71,17 +77,21 @@ pub fn one_data_block() -> Vec<u8> {
     volume
 }
 
-/// Data blocks of 100 bytes.
-pub fn small_data_blocks() -> Vec<u8> {
-    let payload = Rng::new(5).bytes(79);
-    blocks_of_100(|time| image::data(time, &payload))
+/// A volume of that length with data blocks of so many bytes; the last one takes what is left. So
+/// with blocks as long as the volume there is one, or none where nothing is left.
+pub fn data_blocks(length: usize, size: usize) -> Vec<u8> {
+    let payload = Rng::new(5).bytes(size - 21);
+    blocks_to(length, size, |time| image::data(time, &payload))
 }
+
+/// The lengths of the volumes that show what a check of a short one costs.
+pub const SHORT: [usize; 7] = [80, 200, 400, 800, 1_500, 4_000, 20_000];
 
 /// Links, unlinks, attributes, renames and data, 100 bytes each.
 pub fn small_mixed_blocks() -> Vec<u8> {
     let name = "water level ünïcödé ".repeat(4);
     let name = name.as_bytes();
-    blocks_of_100(|time| match time % 6 {
+    blocks_to(LIMIT, 100, |time| match time % 6 {
         0 => image::link(image::LINK, time, time, 1, &name[..69]),
         1 => image::link(image::UNLINK, time, time, 1, &name[..69]),
         2 => image::xattr(time, time, &name[..17], &name[..59]),
@@ -91,16 +101,18 @@ pub fn small_mixed_blocks() -> Vec<u8> {
     })
 }
 
-fn blocks_of_100(make: impl Fn(u64) -> Vec<u8>) -> Vec<u8> {
+/// Blocks of so many bytes up to that length, and a data block for the rest.
+fn blocks_to(end: usize, size: usize, make: impl Fn(u64) -> Vec<u8>) -> Vec<u8> {
     let mut volume = start(0);
     let mut time = 0;
-    while volume.len() + 121 <= LIMIT {
+    // What is left for the last one is at least a data block without bytes.
+    while volume.len() + size + 21 <= end {
         time += 1;
         let image = make(time);
-        assert_eq!(image.len(), 100);
+        assert_eq!(image.len(), size);
         volume.extend_from_slice(&image);
     }
-    fill(&mut volume, time + 1);
+    fill_to(end, &mut volume, time + 1);
     volume
 }
 

@@ -1,8 +1,8 @@
 //! The inputs of the benchmarks are what they claim to be.
 
 use generator::bench::{
-    archive, archive_extent, archive_volume, copies, inodes, inputs, last_names, lengths, Order,
-    COPIED, COPIES, COPIES_OFFSET,
+    archive, archive_extent, archive_volume, copies, data_blocks, inodes, inputs, last_names,
+    lengths, Order, COPIED, COPIES, COPIES_OFFSET, SHORT,
 };
 use independent::{check, lookup, read_header, run_count, Place, Refusal, Verdict, VOLUME_LIMIT};
 
@@ -16,6 +16,38 @@ fn all_are_accepted_and_full() {
             "{} {verdict:?}",
             input.name
         );
+    }
+}
+
+fn blocks(volume: &[u8]) -> u64 {
+    match check(volume) {
+        Verdict::Accepted { blocks, .. } => blocks,
+        refused => panic!("{refused:?}"),
+    }
+}
+
+/// The last block takes what is left over.
+#[test]
+fn data_blocks_have_the_size_that_is_asked_for() {
+    for size in [100, 1_000] {
+        let volume = data_blocks(VOLUME_LIMIT, size);
+        let list = generator::image::blocks(&volume);
+        assert_eq!(list.len() as u64, blocks(&volume));
+        let (last, others) = list.split_last().expect("a block");
+        assert!(others.iter().all(|block| block.len() == size));
+        assert!((21..21 + size).contains(&last.len()));
+    }
+}
+
+#[test]
+fn short_volumes_are_accepted_and_have_their_length() {
+    for length in SHORT {
+        let one = data_blocks(length, length);
+        assert_eq!(one.len(), length);
+        assert_eq!(blocks(&one), u64::from(length > 80));
+        let many = data_blocks(length, 40);
+        assert_eq!(many.len(), length);
+        assert_eq!(blocks(&many), (length as u64 - 80) / 40);
     }
 }
 
@@ -103,11 +135,7 @@ fn the_file_of_the_archive_goes_through_twenty_volumes() {
 #[test]
 fn each_copy_is_a_run() {
     let volume = copies();
-    let blocks = match check(&volume) {
-        Verdict::Accepted { blocks, .. } => blocks,
-        refused => panic!("{refused:?}"),
-    };
-    assert_eq!(blocks, 2);
+    assert_eq!(blocks(&volume), 2);
     let lengths = (volume.len() as u64).to_le_bytes();
     let count = run_count(&volume, COPIES_OFFSET, &lengths, 0, u64::MAX);
     assert_eq!(count, Ok(COPIES));
