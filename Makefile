@@ -2,12 +2,14 @@
 # command hdrfs and its page below PREFIX.
 SHELL := /bin/bash
 .SHELLFLAGS := -euo pipefail -c
-.PHONY: demo install test calls rust-tests bench check fmt
+.PHONY: demo install test calls rust-tests bench crc-bits check fmt
 
 SAMPLES := crates/samples/data
 HDRFS := rust/target/release/hdrfs
 LIBRARY := target/staticlib/libexchange.a
 DEMO := target/demo
+CRC_BITS := target/crc_bits
+VOLUMES := target/volumes
 PREFIX ?= /usr/local
 
 # The programs written in Rattle have no exit status, so what they wrote is looked at by others: the command's check, and cmp.
@@ -68,6 +70,17 @@ rust-tests:
 
 bench:
 	cd rust && cargo run --release --offline --package bench
+
+# The program that works out checksums bit by bit, on three volumes of 16 MiB: with one data block, with data blocks of 1,000
+# bytes and of 100.
+crc-bits: $(CRC_BITS)
+	@mkdir -p $(VOLUMES)
+	@cargo run --release --offline --quiet --manifest-path rust/Cargo.toml --package generator --example volumes $(VOLUMES)
+	@for name in one_block blocks_of_1000 blocks_of_100; do echo "$$name"; $(CRC_BITS) $(VOLUMES)/$$name.vol; done
+
+$(CRC_BITS): docs/src/crc_bits.rs docs/src/crc_forms.rs
+	@mkdir -p target
+	rustc -O --edition 2021 $< -o $@
 
 # The quick form of the proofs: only what changed since the last time is proved again.
 check:
