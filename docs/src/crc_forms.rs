@@ -20,6 +20,7 @@ const POLYNOMIAL: u32 = 0x04C1_1DB7;
 const REVERSED: u32 = POLYNOMIAL.reverse_bits();
 
 /// A form, by name.
+#[derive(Clone, Copy)]
 pub struct Form {
     pub name: &'static str,
     pub crc: fn(&[u8]) -> u32,

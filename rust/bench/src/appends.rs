@@ -22,6 +22,7 @@ pub fn run(rounds: usize) {
     report::pair_heading("appends of 16 MiB", Unit::Milliseconds);
     for (name, payload) in [
         ("one data block", LIMIT - HEADER - BARE),
+        ("data blocks of 1,000 bytes", 1_000 - BARE),
         ("data blocks of 100 bytes", 100 - BARE),
     ] {
         let payload = vec![b'5'; payload];

@@ -1,13 +1,15 @@
 //! Times the proved library against the independent implementation: same process, same input, in
 //! turns, and the best of some rounds. `bench N` takes N rounds, `bench N NAME` only that part.
 //!
-//! The proved library looks up its checksum byte by byte. So there are two ratios: to the
-//! independent implementation with the same algorithm ("table"), and with the faster one that takes
-//! eight bytes at a time ("slicing").
+//! The checksum is most of the work. So there are two ratios: to the independent implementation with
+//! a look-up for each byte ("table"), and with the faster one that takes eight bytes at a time
+//! ("slicing"). Where checksums are the matter, the same checksums alone are timed too: bit by bit,
+//! by slicing, and by zlib.
 #![deny(unsafe_code)]
 
 mod appends;
 mod archives;
+mod beside;
 mod checks;
 mod clock;
 mod files;
@@ -15,8 +17,7 @@ mod report;
 mod sums;
 mod texts;
 mod timing;
-#[cfg(feature = "zlib")]
-#[allow(unsafe_code)]
+mod volumes;
 mod zlib;
 
 use std::process::ExitCode;
@@ -28,11 +29,12 @@ const ROUNDS: usize = 9;
 type Part = fn(usize);
 
 /// The parts, by name.
-const PARTS: [(&str, Part); 6] = [
+const PARTS: [(&str, Part); 7] = [
+    ("sums", sums::run),
+    ("volumes", volumes::run),
     ("checks", checks::run),
     ("texts", texts::run),
     ("files", files::run),
-    ("sums", sums::run),
     ("appends", appends::run),
     ("archives", archives::run),
 ];

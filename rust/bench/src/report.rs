@@ -2,6 +2,8 @@
 
 use std::time::Duration;
 
+use crate::beside::Beside;
+
 /// What a time is shown in.
 #[derive(Clone, Copy)]
 pub enum Unit {
@@ -76,5 +78,34 @@ pub fn pair(name: &str, unit: Unit, times: [Duration; 2]) {
     println!(
         "{name:<44}{first:>10.3}{second:>15.3}{:>9.2}",
         first / second
+    );
+}
+
+/// The heading of a table of works beside their checksums alone.
+pub fn beside_heading(title: &str, unit: Unit) {
+    let unit = unit.name();
+    println!(
+        "{title:<44}{:>10}{:>9}{:>11}{:>9}{:>8}{:>11}{:>8}",
+        format!("proved {unit}"),
+        format!("bits {unit}"),
+        format!("slicing {unit}"),
+        format!("zlib {unit}"),
+        "/ bits",
+        "/ slicing",
+        "/ zlib"
+    );
+}
+
+/// One row: the work, its checksums by three methods, and the ratios to these.
+pub fn beside(name: &str, unit: Unit, times: &Beside) {
+    let [proved, bits, slicing] =
+        [times.proved, times.bits, times.slicing].map(|time| unit.of(time));
+    let zlib = times.zlib.map(|time| unit.of(time));
+    println!(
+        "{name:<44}{proved:>10.3}{bits:>9.3}{slicing:>11.3}{:>9}{:>8.2}{:>11.2}{:>8}",
+        zlib.map_or("-".into(), |zlib| format!("{zlib:.3}")),
+        proved / bits,
+        proved / slicing,
+        zlib.map_or("-".into(), |zlib| format!("{:.2}", proved / zlib))
     );
 }

@@ -6,8 +6,10 @@ use std::fs;
 use std::path::PathBuf;
 use std::process::ExitCode;
 
-use generator::bench::{data_blocks, one_data_block};
-use generator::image::LIMIT;
+use generator::bench::data_inputs;
+
+/// The files, in the order of the inputs.
+const NAMES: [&str; 3] = ["one_block.vol", "blocks_of_1000.vol", "blocks_of_100.vol"];
 
 fn main() -> ExitCode {
     let mut words = std::env::args_os().skip(1);
@@ -15,14 +17,10 @@ fn main() -> ExitCode {
         eprintln!("usage: volumes FOLDER");
         return ExitCode::FAILURE;
     };
-    let folder = PathBuf::from(folder);
-    for (name, volume) in [
-        ("one_block.vol", one_data_block()),
-        ("blocks_of_1000.vol", data_blocks(LIMIT, 1_000)),
-        ("blocks_of_100.vol", data_blocks(LIMIT, 100)),
-    ] {
-        if let Err(error) = fs::write(folder.join(name), volume) {
-            eprintln!("volumes: {}: {error}", folder.join(name).display());
+    for (name, input) in NAMES.into_iter().zip(data_inputs()) {
+        let path = PathBuf::from(&folder).join(name);
+        if let Err(error) = fs::write(&path, input.volume) {
+            eprintln!("volumes: {}: {error}", path.display());
             return ExitCode::FAILURE;
         }
     }

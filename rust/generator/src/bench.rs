@@ -21,13 +21,28 @@ pub struct Input {
     pub volume: Vec<u8>,
 }
 
-/// All inputs of this file, made one at a time.
-pub fn inputs() -> impl Iterator<Item = Input> {
-    type Make = fn() -> Vec<u8>;
-    let list: [(&'static str, Make); 11] = [
+/// How an input is made.
+type Make = fn() -> Vec<u8>;
+
+fn made<const N: usize>(list: [(&'static str, Make); N]) -> impl Iterator<Item = Input> {
+    list.into_iter().map(|(name, make)| Input {
+        name,
+        volume: make(),
+    })
+}
+
+/// Volumes with nothing but data blocks, made one at a time.
+pub fn data_inputs() -> impl Iterator<Item = Input> {
+    made([
         ("one data block", one_data_block),
         ("data blocks of 1,000 bytes", || data_blocks(LIMIT, 1_000)),
         ("data blocks of 100 bytes", || data_blocks(LIMIT, 100)),
+    ])
+}
+
+/// These and all others of this file that are accepted and have 16 MiB, made one at a time.
+pub fn inputs() -> impl Iterator<Item = Input> {
+    data_inputs().chain(made([
         ("mixed blocks of 100 bytes", small_mixed_blocks),
         ("1,024 extents, rising", || inodes(Order::Rising)),
         ("1,024 extents, falling", || inodes(Order::Falling)),
@@ -42,11 +57,7 @@ pub fn inputs() -> impl Iterator<Item = Input> {
         ("4,096 long names, shuffled", || {
             table_long_names(Order::Shuffled)
         }),
-    ];
-    list.into_iter().map(|(name, make)| Input {
-        name,
-        volume: make(),
-    })
+    ]))
 }
 
 /// A header that a benchmark input begins with.
@@ -210,7 +221,6 @@ pub struct LastName {
 
 /// The volumes whose last name is at fault, made one at a time.
 pub fn last_names() -> impl Iterator<Item = LastName> {
-    type Make = fn() -> Vec<u8>;
     let list: [(&'static str, Make); 2] = [
         ("links of 100 bytes", links_to_the_end),
         ("4,096 long names", || table_long_names(Order::Rising)),
