@@ -68,8 +68,13 @@ calls:
 rust-tests:
 	cd rust && cargo test --release --offline --workspace
 
+# zlib's checksum is timed beside the others where it can be linked.
 bench:
-	cd rust && cargo run --release --offline --package bench
+	@mkdir -p target
+	@features=; \
+	if gcc -shared -x c /dev/null -lz -o target/with_zlib.so 2>/dev/null; then features="--features zlib"; \
+	else echo "zlib cannot be linked here, so it is not timed"; fi; \
+	cd rust && cargo run --release --offline --package bench $$features
 
 # The program that works out checksums bit by bit, on three volumes of 16 MiB: with one data block, with data blocks of 1,000
 # bytes and of 100.
