@@ -14,6 +14,7 @@ mod checks;
 mod clock;
 mod files;
 mod report;
+mod short;
 mod sums;
 mod texts;
 mod timing;
@@ -29,10 +30,11 @@ const ROUNDS: usize = 9;
 type Part = fn(usize);
 
 /// The parts, by name.
-const PARTS: [(&str, Part); 7] = [
+const PARTS: [(&str, Part); 8] = [
     ("sums", sums::run),
     ("volumes", volumes::run),
     ("checks", checks::run),
+    ("short", short::run),
     ("texts", texts::run),
     ("files", files::run),
     ("appends", appends::run),
