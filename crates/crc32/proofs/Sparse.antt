@@ -19,7 +19,7 @@ unfoldable pub zeros : ℕ → ℕ → ℕ
 zeros zero register = register
 zeros (suc count) register = zeros count (byteStep register 0)
 
-zeros-xor : (n a b : ℕ) → zeros n (bitXor a b) ≡ bitXor (zeros n a) (zeros n b)
+pub zeros-xor : (n a b : ℕ) → zeros n (bitXor a b) ≡ bitXor (zeros n a) (zeros n b)
 unfolding zeros
 zeros-xor zero a b = refl
 zeros-xor (suc n) a b = ap (zeros n) (byte-xor a b 0) ∙ zeros-xor n (byteStep a 0) (byteStep b 0)

@@ -13,16 +13,16 @@ slice-aggregate-fold c = search needs
 fold-requires : tie.Need-fold-requires
 fold-requires c κs = search needs
 
-slice-aggregate-bytewise : tie.Need-slice-aggregate-bytewise
-slice-aggregate-bytewise c = search needs
+slice-aggregate-wordwise : tie.Need-slice-aggregate-wordwise
+slice-aggregate-wordwise c = search needs
 
-bytewise-requires : tie.Need-bytewise-requires
-bytewise-requires c κs = search needs
+wordwise-requires : tie.Need-wordwise-requires
+wordwise-requires c κs = search needs
 
 returns : tie.Need-returns
-returns c = c .bytewise .ensures ∙ ap (foldl byteStep 0) (c .before .before .before .fold .ensures) ∙ register-folded _
+returns c = c .wordwise .ensures ∙ ap (foldl byteStep 0) (c .before .before .before .fold .ensures) ∙ register-folded _
 
 pub folded-alone-spec : {M : Type 1} → statement M
 folded-alone-spec =
     tie.close
-    (tie.spec slice-aggregate-fold fold-requires slice-aggregate-bytewise bytewise-requires returns)
+    (tie.spec slice-aggregate-fold fold-requires slice-aggregate-wordwise wordwise-requires returns)
