@@ -5,4 +5,4 @@ pub const NO_TABLES: [u32; 0] = [];
 
 // Internal: the shortest volume for which a walk fills the tables. Filling costs about as much as the checksum of that many
 // bytes, one at a time.
-pub const FILL_FROM: usize = 1024;
+pub const FILL_FROM: usize = 1280;

@@ -6,13 +6,14 @@ use native.Mathlib.Omega.{arith}
 use native.Mathlib.Nat.{mul-one, mul-assoc, pow-suc}
 use lib.ListN.{length, getD}
 use lib.Bits.{bitXor, xor-zero-r}
-use Rattle.slicing.specs.inner.Slicing.{values}
+use Rattle.slicing.specs.inner.Slicing.{zeros, values}
 use Rattle.slicing.proofs.Values.{listed}
 use Rattle.slicing.proofs.Xor.{xor-assoc}
-use Rattle.crc32.specs.Crc.{bits, reversed, polynomial, bitStep, byteStep}
+use Rattle.slicing.proofs.Zeros.{zeros-xor, zeros-last}
+use Rattle.crc32.specs.Crc.{byteStep}
 use Rattle.crc32.proofs.Shift.{byte-shifts, shifts}
-use Rattle.crc32.proofs.Linear.{byte-split}
-use Rattle.crc32.proofs.Sparse.{zeros, zeros-xor, zeros-last}
+use Rattle.crc32.proofs.Linear.{byte-zero, byte-xor, byte-split}
+use Rattle.crc32.proofs.Sparse.{moved}
 
 -- A byte may be added to the register before the step.
 byte-add : (r b : ℕ) → b < 256 → byteStep r b ≡ byteStep (bitXor r b) 0
@@ -20,10 +21,6 @@ byte-add r b h =
     byte-shifts r b h
     ∙ ap (shifts 8) (sym (xor-zero-r (bitXor r b)))
     ∙ sym (byte-shifts (bitXor r b) 0 (omega arith))
-
-still : byteStep 0 0 ≡ 0
-unfolding bits reversed polynomial bitStep byteStep
-still = refl
 
 -- A zero byte moves a register down whose low byte is zero.
 byte-down : (n : ℕ) → byteStep (n * 256) 0 ≡ n
@@ -33,33 +30,33 @@ byte-down n =
     byte-split (n * 256) 0
     ∙ ap₂ (λ (x y : ℕ). bitXor x (byteStep 0 (y % 256))) down (xor-zero-r (n * 256))
     ∙ ap (λ (y : ℕ). bitXor n (byteStep 0 y)) low
-    ∙ ap (bitXor n) still
+    ∙ ap (bitXor n) byte-zero
     ∙ xor-zero-r n
 
-zeros-down : (k b : ℕ) → zeros k (b * 256 ^ k) ≡ b
+zeros-down : (k b : ℕ) → moved k (b * 256 ^ k) ≡ b
 unfolding zeros
 zeros-down zero b = mul-one b
 zeros-down (suc k) b =
-    ap (λ (n : ℕ). zeros k (byteStep n 0)) (ap (λ (p : ℕ). b * p) (pow-suc 256 k) ∙ sym (mul-assoc b (256 ^ k) 256))
-    ∙ ap (zeros k) (byte-down (b * 256 ^ k))
+    ap (λ (n : ℕ). moved k (byteStep n 0)) (ap (λ (p : ℕ). b * p) (pow-suc 256 k) ∙ sym (mul-assoc b (256 ^ k) 256))
+    ∙ ap (moved k) (byte-down (b * 256 ^ k))
     ∙ zeros-down k b
 
 -- A byte after some zero bytes may be added before them, as many bytes further up.
-byte-before : (k r b : ℕ) → b < 256 → byteStep (zeros k r) b ≡ zeros (suc k) (bitXor r (b * 256 ^ k))
+byte-before : (k r b : ℕ) → b < 256 → byteStep (moved k r) b ≡ moved (suc k) (bitXor r (b * 256 ^ k))
 byte-before k r b h =
-    byte-add (zeros k r) b h
-    ∙ ap (λ (n : ℕ). byteStep (bitXor (zeros k r) n) 0) (sym (zeros-down k b))
-    ∙ ap (λ (n : ℕ). byteStep n 0) (sym (zeros-xor k r (b * 256 ^ k)))
-    ∙ sym (zeros-last k (bitXor r (b * 256 ^ k)))
+    byte-add (moved k r) b h
+    ∙ ap (λ (n : ℕ). byteStep (bitXor (moved k r) n) 0) (sym (zeros-down k b))
+    ∙ ap (λ (n : ℕ). byteStep n 0) (sym (zeros-xor byteStep byte-xor k r (b * 256 ^ k)))
+    ∙ sym (zeros-last byteStep k (bitXor r (b * 256 ^ k)))
 
-first-byte : (r b : ℕ) → b < 256 → byteStep r b ≡ zeros 1 (bitXor r b)
+first-byte : (r b : ℕ) → b < 256 → byteStep r b ≡ moved 1 (bitXor r b)
 unfolding zeros
 first-byte r b h = byte-add r b h
 
 -- Four bytes one after the other, and at once.
 pub four-bytes :
     (s : List ℕ) (r : ℕ) → length s ≡ 4 → ((i : ℕ) → getD s i 0 < 256)
-    → zeros 4
+    → moved 4
     (bitXor r
     (bitXor (bitXor (bitXor (getD s 0 0) (getD s 1 0 * 256)) (getD s 2 0 * 65536)) (getD s 3 0 * 16777216)))
     ≡ foldl byteStep r s
@@ -75,7 +72,7 @@ four-bytes s r e bytes =
     ∙ ap (λ (n : ℕ). byteStep (byteStep n b2) b3) (byte-before 1 (bitXor r b0) b1 (bytes 1))
     ∙ ap (λ (n : ℕ). byteStep n b3) (byte-before 2 (bitXor (bitXor r b0) (b1 * 256)) b2 (bytes 2))
     ∙ byte-before 3 (bitXor (bitXor (bitXor r b0) (b1 * 256)) (b2 * 65536)) b3 (bytes 3)
-    ∙ ap (zeros 4)
+    ∙ ap (moved 4)
     (ap (λ (n : ℕ). bitXor n (b3 * 16777216))
     (ap (λ (n : ℕ). bitXor n (b2 * 65536)) (xor-assoc r b0 (b1 * 256)) ∙ xor-assoc r (bitXor b0 (b1 * 256)) (b2 * 65536))
     ∙ xor-assoc r (bitXor (bitXor b0 (b1 * 256)) (b2 * 65536)) (b3 * 16777216)))

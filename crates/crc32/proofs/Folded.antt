@@ -8,13 +8,16 @@ use lib.ListN.{length, getD, take, drop, replicate, length-append, length-take, 
 use lib.Seq.{take-suc, take-append-le, take-append-add, length-take-le, take-all}
 use lib.Bits.{bitXor, xor-self, xor-zero-r}
 use Rattle.slicing.proofs.Xor.{xor-right-comm, xor-assoc}
+use Rattle.slicing.proofs.Zeros.{zeros-last, fold-xor}
 use Rattle.slicing.specs.inner.Slicing.{step}
 use Rattle.folding.specs.inner.Folding.{taken, start, added, delayed, spread, folded}
+use Rattle.folding.proofs.Lengths.{length-start, length-taken, length-window}
+use Rattle.folding.proofs.Rest.{length-added, length-delayed}
 use Rattle.crc32.specs.Crc.{bits, reversed, polynomial, bitStep, byteStep, register}
 use Rattle.crc32.specs.inner.Tables.{crcRows}
 use Rattle.crc32.proofs.Row.{fold-lent}
-use Rattle.crc32.proofs.Linear.{byte-both, byte-xor}
-use Rattle.crc32.proofs.Sparse.{zeros, zeros-last, fold-xor, sum, sum-cong, sum-xor, byte-sum, spared, spared-sum, byte-spared}
+use Rattle.crc32.proofs.Linear.{byte-zero, byte-both, byte-xor}
+use Rattle.crc32.proofs.Sparse.{moved, sum, sum-cong, sum-xor, byte-sum, spared, spared-sum, byte-spared}
 
 -- The register of zero after bytes.
 abbrev run : List ℕ → ℕ
@@ -31,17 +34,17 @@ run-last s x n h =
     ∙ foldl-append byteStep 0 (take n s) (getD s n 0 ∷ [])
 
 -- The first byte of a beginning.
-run-first : (h : ℕ) (s : List ℕ) (n : ℕ) → length s ≡ n → run (h ∷ s) ≡ bitXor (run s) (zeros n (byteStep 0 h))
-run-first h s n e = fold-xor s 0 (byteStep 0 h) ∙ ap (λ (k : ℕ). bitXor (run s) (zeros k (byteStep 0 h))) e
+run-first : (h : ℕ) (s : List ℕ) (n : ℕ) → length s ≡ n → run (h ∷ s) ≡ bitXor (run s) (moved n (byteStep 0 h))
+run-first h s n e = fold-xor byteStep byte-xor s 0 (byteStep 0 h) ∙ ap (λ (k : ℕ). bitXor (run s) (moved k (byteStep 0 h))) e
 
 -- The oldest byte leaves: it is what the multiple spares.
 spared-bytes :
     (h : ℕ) → let g = byteStep 0 h in
-    byteStep (sum (zeros 299 g) (zeros 154 g) (zeros 116 g) (zeros 88 g)) 0 ≡ g
+    byteStep (sum (moved 299 g) (moved 154 g) (moved 116 g) (moved 88 g)) 0 ≡ g
 spared-bytes h =
     let g = byteStep 0 h in
-    byte-sum (zeros 299 g) (zeros 154 g) (zeros 116 g) (zeros 88 g) 0 0 0 0
-    ∙ sum-cong (sym (zeros-last 299 g)) (sym (zeros-last 154 g)) (sym (zeros-last 116 g)) (sym (zeros-last 88 g))
+    byte-sum (moved 299 g) (moved 154 g) (moved 116 g) (moved 88 g) 0 0 0 0
+    ∙ sum-cong (sym (zeros-last byteStep 299 g)) (sym (zeros-last byteStep 154 g)) (sym (zeros-last byteStep 116 g)) (sym (zeros-last byteStep 88 g))
     ∙ spared-sum g ∙ byte-spared h
 
 -- A number added twice is gone.
@@ -67,14 +70,14 @@ module _ (h : ℕ) (s : List ℕ) (long : length s ≡ 299) where
 
   left-later :
       left (h ∷ s)
-      ≡ bitXor later (sum (zeros 299 (byteStep 0 h)) (zeros 154 (byteStep 0 h)) (zeros 116 (byteStep 0 h)) (zeros 88 (byteStep 0 h)))
+      ≡ bitXor later (sum (moved 299 (byteStep 0 h)) (moved 154 (byteStep 0 h)) (moved 116 (byteStep 0 h)) (moved 88 (byteStep 0 h)))
   left-later =
       sum-cong (run-first h s 299 long)
       (run-first h (take 154 s) 154 (length-take-le 154 s (omega arith)))
       (run-first h (take 116 s) 116 (length-take-le 116 s (omega arith)))
       (run-first h (take 88 s) 88 (length-take-le 88 s (omega arith)))
-      ∙ sum-xor (run s) (run (take 154 s)) (run (take 116 s)) (run (take 88 s)) (zeros 299 (byteStep 0 h))
-      (zeros 154 (byteStep 0 h)) (zeros 116 (byteStep 0 h)) (zeros 88 (byteStep 0 h))
+      ∙ sum-xor (run s) (run (take 154 s)) (run (take 116 s)) (run (take 88 s)) (moved 299 (byteStep 0 h))
+      (moved 154 (byteStep 0 h)) (moved 116 (byteStep 0 h)) (moved 88 (byteStep 0 h))
 
   left-new :
       (m : ℕ)
@@ -102,10 +105,6 @@ taken-left : (window : List ℕ) (m : ℕ) → length window ≡ 300 → left (t
 taken-left [] m e = absurd (suc-ne-zero 299 (sym e))
 taken-left (h ∷ s) m e = step-taken h s (suc-inj e) m
 
-length-taken : (window : List ℕ) (m : ℕ) → length window ≡ 300 → length (taken window m) ≡ 300
-unfolding taken
-length-taken window m e = simp (length-append, length-drop) (omega arith)
-
 -- Byte after byte.
 fold-left :
     (bytes window : List ℕ) → length window ≡ 300 → left (foldl taken window bytes) ≡ foldl byteStep (left window) bytes
@@ -113,10 +112,6 @@ fold-left [] window e = refl
 fold-left (b ∷ bytes) window e =
     fold-left bytes (taken window b) (length-taken window b e)
     ∙ ap (λ (r : ℕ). foldl byteStep r bytes) (taken-left window b e)
-
-length-fold : (bytes window : List ℕ) → length window ≡ 300 → length (foldl taken window bytes) ≡ 300
-length-fold [] window e = e
-length-fold (b ∷ bytes) window e = length-fold bytes (taken window b) (length-taken window b e)
 
 -- Two lists added give the sum of their registers.
 fold-added :
@@ -130,19 +125,9 @@ fold-added (x ∷ xs) (y ∷ ys) p q e =
     ap (λ (r : ℕ). foldl byteStep r (added xs ys)) (byte-both p q x y)
     ∙ fold-added xs ys (byteStep p x) (byteStep q y) (suc-inj e)
 
-length-added : (xs ys : List ℕ) → length xs ≡ length ys → length (added xs ys) ≡ length xs
-unfolding added
-length-added [] ys e = refl
-length-added (x ∷ xs) [] e = absurd (suc-ne-zero (length xs) e)
-length-added (x ∷ xs) (y ∷ ys) e = ap suc (length-added xs ys (suc-inj e))
-
-still : byteStep 0 0 ≡ 0
-unfolding bits reversed polynomial bitStep byteStep
-still = refl
-
 run-zeros : (n : ℕ) → run (replicate n 0) ≡ 0
 run-zeros zero = refl
-run-zeros (suc n) = ap (λ (r : ℕ). foldl byteStep r (replicate n 0)) still ∙ run-zeros n
+run-zeros (suc n) = ap (λ (r : ℕ). foldl byteStep r (replicate n 0)) byte-zero ∙ run-zeros n
 
 -- Zeros before bytes are nothing to a register of zero.
 run-delayed : (p q : ℕ) (s : List ℕ) → p + q ≡ 300 → run (delayed p s) ≡ run (take q s)
@@ -154,10 +139,6 @@ run-delayed p q s e =
     ∙ ap run (take-append-add before s q)
     ∙ foldl-append byteStep 0 before (take q s)
     ∙ ap (λ (r : ℕ). foldl byteStep r (take q s)) (run-zeros p)
-
-length-delayed : (p : ℕ) (s : List ℕ) → length s ≡ 300 → length (delayed p s) ≡ 300
-unfolding delayed
-length-delayed p s e = length-take-le 300 (replicate p 0 ++ s) (simp (length-append, length-replicate) (omega arith))
 
 run-spread : (window : List ℕ) → length window ≡ 300 → run (spread window) ≡ left window
 unfolding spread
@@ -180,15 +161,11 @@ left-start : left start ≡ 0xFFFFFFFF
 unfolding start bits reversed polynomial bitStep byteStep
 left-start = refl
 
-length-start : length start ≡ 300
-unfolding start
-length-start = refl
-
 -- The register after bytes, from what folding leaves of them.
 pub register-folded : (bytes : List ℕ) → foldl byteStep 0 (folded bytes) ≡ register bytes
 unfolding register folded
 register-folded bytes =
-    run-spread (foldl taken start bytes) (length-fold bytes start length-start)
+    run-spread (foldl taken start bytes) (length-window start bytes length-start)
     ∙ fold-left bytes start length-start
     ∙ ap (λ (r : ℕ). foldl byteStep r bytes) left-start
 

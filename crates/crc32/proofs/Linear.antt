@@ -9,7 +9,7 @@ use native.Mathlib.Nat.{le-of-suc-le-suc, not-suc-le-zero, zero-lt-suc, mod-lt, 
 use lib.Pow.{split, pow-pos, field, mod-mod-pow}
 use lib.Bits.{bitXor, xor-self, xor-zero-r, xor-shr, xor-mod, xor-shifted, shifted-half, shifted-even}
 use Rattle.slicing.proofs.Xor.{xor-half, xor-low, xor-four}
-use Rattle.crc32.specs.Crc.{bits, polynomial, bitStep, byteStep}
+use Rattle.crc32.specs.Crc.{bits, reversed, polynomial, bitStep, byteStep}
 use Rattle.crc32.proofs.Shift.{shifts, byte-shifts}
 
 -- A binary digit is 0 or 1.
@@ -81,6 +81,11 @@ byte-xor p q b = ap (byteStep (bitXor p q)) (sym (xor-zero-r b)) ∙ byte-both p
 
 pub bit-xor : (p q : ℕ) → bitStep (bitXor p q) 0 ≡ bitXor (bitStep p 0) (bitStep q 0)
 bit-xor p q = bit-both p q 0 0
+
+-- Nothing comes of nothing.
+pub byte-zero : byteStep 0 0 ≡ 0
+unfolding bits reversed polynomial bitStep byteStep
+byte-zero = refl
 
 shifts-xor : (k a b : ℕ) → shifts k (bitXor a b) ≡ bitXor (shifts k a) (shifts k b)
 unfolding shifts

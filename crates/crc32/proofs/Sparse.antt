@@ -10,41 +10,25 @@ use lib.Arith.{lt-one}
 use lib.ListN.{length}
 use lib.Pow.{split, pow-pos}
 use lib.Bits.{bitXor, xor-shifted}
+use Rattle.slicing.specs.inner.Slicing.{zeros}
 use Rattle.slicing.proofs.Xor.{xor-four}
+use Rattle.slicing.proofs.Zeros.{zeros-xor}
 use Rattle.crc32.specs.Crc.{bits, reversed, polynomial, bitStep, byteStep}
 use Rattle.crc32.proofs.Linear.{bit-xor, byte-xor, byte-both, byte-low, digit}
 
--- The register after a number of zero bytes.
-unfoldable pub zeros : ℕ → ℕ → ℕ
-zeros zero register = register
-zeros (suc count) register = zeros count (byteStep register 0)
-
-pub zeros-xor : (n a b : ℕ) → zeros n (bitXor a b) ≡ bitXor (zeros n a) (zeros n b)
-unfolding zeros
-zeros-xor zero a b = refl
-zeros-xor (suc n) a b = ap (zeros n) (byte-xor a b 0) ∙ zeros-xor n (byteStep a 0) (byteStep b 0)
-
-pub zeros-last : (n r : ℕ) → zeros (suc n) r ≡ byteStep (zeros n r) 0
-unfolding zeros
-zeros-last zero r = refl
-zeros-last (suc n) r = zeros-last n (byteStep r 0)
-
--- What is added to the register at first is there at the end, moved past as many zero bytes.
-pub fold-xor :
-    (s : List ℕ) (p q : ℕ) → foldl byteStep (bitXor p q) s ≡ bitXor (foldl byteStep p s) (zeros (length s) q)
-unfolding zeros
-fold-xor [] p q = refl
-fold-xor (b ∷ s) p q = ap (λ (r : ℕ). foldl byteStep r s) (byte-xor p q b) ∙ fold-xor s (byteStep p b) (byteStep q 0)
+-- The register moved past a number of zero bytes.
+abbrev pub moved : ℕ → ℕ → ℕ
+moved n r = zeros byteStep n r
 
 -- A zero bit before zero bytes may be taken after them.
 byte-bit : (r : ℕ) → byteStep (bitStep r 0) 0 ≡ bitStep (byteStep r 0) 0
 unfolding bits byteStep
 byte-bit r = refl
 
-zeros-bit : (n r : ℕ) → zeros n (bitStep r 0) ≡ bitStep (zeros n r) 0
+zeros-bit : (n r : ℕ) → moved n (bitStep r 0) ≡ bitStep (moved n r) 0
 unfolding zeros
 zeros-bit zero r = refl
-zeros-bit (suc n) r = ap (zeros n) (byte-bit r) ∙ zeros-bit n (byteStep r 0)
+zeros-bit (suc n) r = ap (moved n) (byte-bit r) ∙ zeros-bit n (byteStep r 0)
 
 -- The sum of four numbers.
 abbrev pub sum : ℕ → ℕ → ℕ → ℕ → ℕ
@@ -74,7 +58,7 @@ bit-sum a b c d =
 
 -- What the multiple makes of a register: it is to be the register again.
 unfoldable pub spared : ℕ → ℕ
-spared r = sum (zeros 300 r) (zeros 155 r) (zeros 117 r) (zeros 89 r)
+spared r = sum (moved 300 r) (moved 155 r) (moved 117 r) (moved 89 r)
 
 pub sum-cong :
     {a b c d p q r s : ℕ} → a ≡ p → b ≡ q → c ≡ r → d ≡ s → sum a b c d ≡ sum p q r s
@@ -83,15 +67,15 @@ sum-cong ea eb ec ed = ap₂ bitXor (ap₂ bitXor (ap₂ bitXor ea eb) ec) ed
 spared-xor : (a b : ℕ) → spared a ≡ a → spared b ≡ b → spared (bitXor a b) ≡ bitXor a b
 unfolding spared
 spared-xor a b ea eb =
-    sum-cong (zeros-xor 300 a b) (zeros-xor 155 a b) (zeros-xor 117 a b) (zeros-xor 89 a b)
-    ∙ sum-xor (zeros 300 a) (zeros 155 a) (zeros 117 a) (zeros 89 a) (zeros 300 b) (zeros 155 b) (zeros 117 b) (zeros 89 b)
+    sum-cong (zeros-xor byteStep byte-xor 300 a b) (zeros-xor byteStep byte-xor 155 a b) (zeros-xor byteStep byte-xor 117 a b) (zeros-xor byteStep byte-xor 89 a b)
+    ∙ sum-xor (moved 300 a) (moved 155 a) (moved 117 a) (moved 89 a) (moved 300 b) (moved 155 b) (moved 117 b) (moved 89 b)
     ∙ ap₂ bitXor ea eb
 
 spared-bit : (r : ℕ) → spared r ≡ r → spared (bitStep r 0) ≡ bitStep r 0
 unfolding spared
 spared-bit r e =
     sum-cong (zeros-bit 300 r) (zeros-bit 155 r) (zeros-bit 117 r) (zeros-bit 89 r)
-    ∙ sym (bit-sum (zeros 300 r) (zeros 155 r) (zeros 117 r) (zeros 89 r))
+    ∙ sym (bit-sum (moved 300 r) (moved 155 r) (moved 117 r) (moved 89 r))
     ∙ ap (λ (n : ℕ). bitStep n 0) e
 
 -- Computed: the byte's highest bit.
@@ -146,6 +130,6 @@ bits-spared =
 pub byte-spared : (b : ℕ) → spared (byteStep 0 b) ≡ byteStep 0 b
 byte-spared b = subst (λ (r : ℕ). spared r ≡ r) (sym (byte-low 0 b)) (bits-spared (b % 256) (omega arith))
 
-pub spared-sum : (r : ℕ) → sum (zeros 300 r) (zeros 155 r) (zeros 117 r) (zeros 89 r) ≡ spared r
+pub spared-sum : (r : ℕ) → sum (moved 300 r) (moved 155 r) (moved 117 r) (moved 89 r) ≡ spared r
 unfolding spared
 spared-sum r = refl

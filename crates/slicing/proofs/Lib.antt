@@ -1,4 +1,5 @@
 pub mod Xor
+pub mod Zeros
 pub mod Linear
 pub mod Values
 pub mod Rows

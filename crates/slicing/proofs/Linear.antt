@@ -1,13 +1,12 @@
--- By a linear row the register's step is linear: what is added to the register (exclusive or) before some bytes is there
--- after them, moved past as many zero bytes.
-use Prim.Native.Nat.{ℕ, zero, suc, _+_, _/_, _%_, _<_}
-use mathlib.Core.Path.{_≡_, refl, sym, ap, ap₂, _∙_}
-use mathlib.Core.List.{List, [], _∷_, foldl}
-use native.Mathlib.Nat.{add-zero, add-suc, mod-eq-of-lt}
+-- By a linear row the register's step is linear.
+use Prim.Native.Nat.{ℕ, _/_, _%_, _<_}
+use mathlib.Core.Path.{_≡_, sym, ap, ap₂, _∙_}
+use mathlib.Core.List.{List}
+use native.Mathlib.Nat.{mod-eq-of-lt}
 use native.Mathlib.Omega.{arith}
-use lib.ListN.{length, getD}
+use lib.ListN.{getD}
 use lib.Bits.{bitXor, xor-zero-r, xor-shr, xor-mod}
-use Rattle.slicing.specs.inner.Slicing.{step, zeros, Linear}
+use Rattle.slicing.specs.inner.Slicing.{step, Linear}
 use Rattle.slicing.proofs.Xor.{xor-right-comm, xor-four}
 
 module _ (row : List ℕ) where
@@ -21,11 +20,6 @@ module _ (row : List ℕ) where
   unfolding step
   step-byte p b h =
       ap (λ (x : ℕ). bitXor (p / 256) (getD row x 0)) (xor-mod p b 8 ∙ ap (bitXor (p % 256)) (mod-eq-of-lt h))
-
-  pub zeros-add : (m n p : ℕ) → zeros row (m + n) p ≡ zeros row m (zeros row n p)
-  unfolding zeros
-  zeros-add m zero p = rw add-zero
-  zeros-add m (suc n) p = rw add-suc (zeros-add m n _)
 
 module _ {row : List ℕ} (linear : Linear row) where
   -- the entry that is chosen by a sum
@@ -43,20 +37,3 @@ module _ {row : List ℕ} (linear : Linear row) where
       ap₂ bitXor (xor-shr p q 8) (chosen-xor p q b)
       ∙ xor-four (p / 256) (q / 256) (getD row (bitXor p b % 256) 0) (getD row (q % 256) 0)
       ∙ ap (bitXor (step row p b)) (sym (step-zero row q))
-
-  pub zeros-xor : (n p q : ℕ) → zeros row n (bitXor p q) ≡ bitXor (zeros row n p) (zeros row n q)
-  unfolding zeros
-  zeros-xor zero p q = refl
-  zeros-xor (suc n) p q = ap (zeros row n) (step-xor p q 0) ∙ zeros-xor n (step row p 0) (step row q 0)
-
-  pub fold-xor : (s : List ℕ) (p q : ℕ)
-      → foldl (step row) (bitXor p q) s ≡ bitXor (foldl (step row) p s) (zeros row (length s) q)
-  unfolding zeros
-  fold-xor [] p q = refl
-  fold-xor (b ∷ s) p q =
-      ap (λ (x : ℕ). foldl (step row) x s) (step-xor p q b) ∙ fold-xor s (step row p b) (step row q 0)
-
-  -- the bytes taken from a register of zero, and the register moved past as many zero bytes
-  pub fold-apart : (s : List ℕ) (r : ℕ)
-      → foldl (step row) r s ≡ bitXor (foldl (step row) 0 s) (zeros row (length s) r)
-  fold-apart s r = fold-xor s 0 r

@@ -7,10 +7,11 @@ use native.Mathlib.Omega.{arith}
 use lib.ListN.{length, getD, set}
 use lib.Seq.{ext-getD, getD-take, take-set-le, length-take-le}
 use Rattle.slicing.specs.inner.Slicing.{step, zeros, entry, rowsFrom, firstRow, Linear, Rows}
+use Rattle.slicing.proofs.Zeros.{zeros-last}
 use Rattle.slicing.proofs.Values.{length-values, values-at, Filling, filling-more, filling-end}
 
 module _ (row : List ℕ) where
-  entry-at : (k b : ℕ) → b < 256 → entry row (k * 256 + b) ≡ zeros row k (getD row b 0)
+  entry-at : (k b : ℕ) → b < 256 → entry row (k * 256 + b) ≡ zeros (step row) k (getD row b 0)
   unfolding entry
   entry-at k b h =
       let count : (k * 256 + b) / 256 ≡ k = omega arith in
@@ -24,17 +25,12 @@ module _ (row : List ℕ) where
       let byte : i % 256 ≡ i = omega arith in
       rw (count, byte) refl
 
-  zeros-last : (n r : ℕ) → zeros row (suc n) r ≡ step row (zeros row n r) 0
-  unfolding zeros
-  zeros-last zero r = refl
-  zeros-last (suc n) r = zeros-last n (step row r 0)
-
   entry-next : (i : ℕ) → entry row (256 + i) ≡ step row (entry row i) 0
   unfolding entry
   entry-next i =
       let count : (256 + i) / 256 ≡ suc (i / 256) = omega arith in
       let byte : (256 + i) % 256 ≡ i % 256 = omega arith in
-      rw (count, byte) (zeros-last (i / 256) (getD row (i % 256) 0))
+      rw (count, byte) (zeros-last (step row) (i / 256) (getD row (i % 256) 0))
 
   pub rows-length : length (rowsFrom row) ≡ 4096
   unfolding rowsFrom
@@ -66,7 +62,7 @@ module _ {slice : List ℕ} (rows : Rows slice) where
   slice-length = ap length (rows .filled) ∙ rows-length (firstRow slice)
 
   pub slice-at : (k b : ℕ) → k < 16 → b < 256
-      → getD slice (k * 256 + b) 0 ≡ zeros (firstRow slice) k (getD (firstRow slice) b 0)
+      → getD slice (k * 256 + b) 0 ≡ zeros (step (firstRow slice)) k (getD (firstRow slice) b 0)
   slice-at k b hk hb =
       ap (λ (l : List ℕ). getD l (k * 256 + b) 0) (rows .filled)
       ∙ rows-at (firstRow slice) (k * 256 + b) (omega arith) ∙ entry-at (firstRow slice) k b hb

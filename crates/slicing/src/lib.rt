@@ -87,7 +87,7 @@ fn block(rows: &[u32], register: u32, bytes: &[u8]) -> u32
 fn word(rows: &[u32], after: usize, register: u32, bytes: &[u8]) -> u32
     requires { ⌜ (Rows (now rows)) × (after ≤ 12) × (length (now bytes) ≡ 4) ⌝ }
     ensures { λ last. ⌜ last
-        ≡ zeros (firstRow (now (rows .entry))) after (foldl (step (firstRow (now (rows .entry)))) register (now (bytes .entry))) ⌝ }
+        ≡ zeros (step (firstRow (now (rows .entry)))) after (foldl (step (firstRow (now (rows .entry)))) register (now (bytes .entry))) ⌝ }
 {
     let second = register / 256;
     let third = second / 256;
@@ -101,7 +101,7 @@ fn word(rows: &[u32], after: usize, register: u32, bytes: &[u8]) -> u32
 // What a byte and a number of zero bytes after it make of a register of zero.
 fn look(rows: &[u32], after: usize, byte: u8) -> u32
     requires { ⌜ (Rows (now rows)) × (after < 16) ⌝ }
-    ensures { λ made. ⌜ made ≡ zeros (firstRow (now (rows .entry))) after (getD (firstRow (now (rows .entry))) byte 0) ⌝ }
+    ensures { λ made. ⌜ made ≡ zeros (step (firstRow (now (rows .entry)))) after (getD (firstRow (now (rows .entry))) byte 0) ⌝ }
 {
     rows[after * 256 + byte as usize]
 }

@@ -1,12 +1,12 @@
 -- `bytewise` meets its contract: after i turns the local register is that of the first i bytes.
-use Prim.Native.Nat.{_≤_, _<_, _-_}
+use Prim.Native.Nat.{_-_, _≤_}
 use mathlib.Core.Path.{_≡_, refl, ap, _∙_}
 use native.Mathlib.Omega.{arith}
-use native.Mathlib.Numerals.{add-one}
-use mathlib.Core.List.{foldl, foldl-append}
+use mathlib.Core.List.{foldl}
 use lib.ListN.{length, take}
-use lib.Seq.{take-suc, take-all}
+use lib.Seq.{take-all}
 use borrow.Author.Needs.{needs}
+use Rattle.slicing.proofs.Turns.{one-more}
 use Rattle.crc32.specs.Crc.{byteStep}
 use Rattle.crc32.proofs.bytewise.Statement.{statement}
 use Rattle.crc32.proofs.bytewise.Tie as tie
@@ -34,10 +34,11 @@ loop-less c = search needs
 
 loop-again : tie.Need-loop-again Inv-loop μ-loop
 loop-again c =
-    let bytes = c .before .before .before .before .before .args .bytes .now in
-    let i = c .before .before .before .loop .i in
-    let h : i < length bytes = omega arith in
-    (omega arith, rw (add-one, take-suc bytes i 0, foldl-append) (cc (c .byte-step .ensures)))
+    let head = c .before .before .before in
+    let args = head .before .before .args in (
+      omega arith,
+      one-more byteStep (args .bytes .now) (args .first) _ _ (head .loop .i) (head .loop .inv .1) (omega arith) (c .byte-step .ensures),
+    )
 
 returns : tie.Need-returns Inv-loop μ-loop
 returns c =

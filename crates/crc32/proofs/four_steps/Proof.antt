@@ -4,7 +4,7 @@ use mathlib.Core.Path.{ap, _∙_}
 use lib.Bits.{bitXor}
 use borrow.Author.Needs.{needs}
 use Rattle.crc32.specs.Crc.{byteStep}
-use Rattle.crc32.proofs.Sparse.{zeros}
+use Rattle.slicing.specs.inner.Slicing.{zeros}
 use Rattle.crc32.proofs.AtOnce.{four-bytes}
 use Rattle.crc32.proofs.four_steps.Statement.{statement}
 use Rattle.crc32.proofs.four_steps.Tie as tie

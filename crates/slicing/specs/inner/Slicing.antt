@@ -11,14 +11,14 @@ use lib.Bits.{bitXor}
 unfoldable pub step : (row : List ℕ) (register byte : ℕ) → ℕ
 step row register byte = bitXor (register / 256) (getD row (bitXor register byte % 256) 0)
 
--- The register after a number of zero bytes.
-unfoldable pub zeros : (row : List ℕ) (count register : ℕ) → ℕ
-zeros row zero register = register
-zeros row (suc count) register = zeros row count (step row register 0)
+-- The register after a number of zero bytes, for any step that takes a byte.
+unfoldable pub zeros : (takes : ℕ → ℕ → ℕ) (count register : ℕ) → ℕ
+zeros takes zero register = register
+zeros takes (suc count) register = zeros takes count (takes register 0)
 
 -- Entry 256 k + b: what the byte b and k zero bytes after it make of a register of zero.
 unfoldable pub entry : (row : List ℕ) (place : ℕ) → ℕ
-entry row place = zeros row (place / 256) (getD row (place % 256) 0)
+entry row place = zeros (step row) (place / 256) (getD row (place % 256) 0)
 
 -- A function's values at a number and at those that follow it.
 unfoldable pub values : (f : ℕ → ℕ) (start count : ℕ) → List ℕ
