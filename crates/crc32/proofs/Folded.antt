@@ -1,11 +1,11 @@
 -- The 300 bytes that folding leaves over make of a register of zero what all the bytes make of the register at the start.
-use Prim.Native.Nat.{ℕ, zero, suc, _+_, _-_, _≤_, _<_}
-use mathlib.Core.Path.{_≡_, refl, sym, ap, ap₂, _∙_, subst}
+use Prim.Native.Nat.{ℕ, zero, suc, _+_, _≤_}
+use mathlib.Core.Path.{_≡_, refl, sym, ap, ap₂, _∙_}
 use mathlib.Core.List.{List, [], _∷_, _++_, foldl, foldl-append}
 use native.Mathlib.Omega.{arith}
 use native.Mathlib.Nat.{suc-inj, suc-ne-zero}
-use lib.ListN.{length, getD, take, drop, replicate, length-append, length-take, length-drop, length-replicate}
-use lib.Seq.{take-suc, take-append-le, take-append-add, length-take-le, take-all}
+use lib.ListN.{length, getD, take, replicate, length-replicate}
+use lib.Seq.{take-suc, take-append-le, take-append-add, length-take-le}
 use lib.Bits.{bitXor, xor-self, xor-zero-r}
 use Rattle.slicing.proofs.Xor.{xor-right-comm, xor-assoc}
 use Rattle.slicing.proofs.Zeros.{zeros-last, fold-xor}
@@ -17,7 +17,7 @@ use Rattle.crc32.specs.Crc.{bits, reversed, polynomial, bitStep, byteSte
 use Rattle.crc32.specs.inner.Tables.{crcRows}
 use Rattle.crc32.proofs.Row.{fold-lent}
 use Rattle.crc32.proofs.Linear.{byte-zero, byte-both, byte-xor}
-use Rattle.crc32.proofs.Sparse.{moved, sum, sum-cong, sum-xor, byte-sum, spared, spared-sum, byte-spared}
+use Rattle.crc32.proofs.Sparse.{moved, sum, sum-cong, sum-xor, byte-sum, spared-sum, byte-spared}
 
 -- The register of zero after bytes.
 abbrev run : List ℕ → ℕ

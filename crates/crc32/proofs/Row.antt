@@ -8,8 +8,8 @@ use lib.ListN.{length, getD, take}
 use lib.Bits.{bitXor, xor-lt}
 use Rattle.slicing.specs.inner.Slicing.{step, rowsFrom, Linear, Rows}
 use Rattle.slicing.proofs.Values.{length-values, values-at, Filling, filling-first}
-use Rattle.crc32.specs.Crc.{byteStep}
 use Rattle.slicing.proofs.Rows.{rows-first, rows-filled}
+use Rattle.crc32.specs.Crc.{byteStep}
 use Rattle.crc32.specs.inner.Tables.{crcRow, crcRows, Lent}
 use Rattle.crc32.proofs.Linear.{byte-both, byte-split}
 

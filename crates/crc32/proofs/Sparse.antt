@@ -3,11 +3,9 @@
 -- It is computed for one register, and holds of the others since they are that one moved on by bits, and sums of these.
 use Prim.Native.Nat.{ℕ, zero, suc, _+_, _*_, _/_, _%_, _^_, _<_}
 use mathlib.Core.Path.{_≡_, refl, sym, ap, ap₂, _∙_, subst}
-use mathlib.Core.List.{List, [], _∷_, foldl}
 use native.Mathlib.Omega.{arith}
 use native.Mathlib.Nat.{mod-lt, zero-mul, one-mul, pow-suc, div-lt-iff-lt-mul}
 use lib.Arith.{lt-one}
-use lib.ListN.{length}
 use lib.Pow.{split, pow-pos}
 use lib.Bits.{bitXor, xor-shifted}
 use Rattle.slicing.specs.inner.Slicing.{zeros}
@@ -34,6 +32,10 @@ zeros-bit (suc n) r = ap (moved n) (byte-bit r) ∙ zeros-bit n (byteStep r 0)
 abbrev pub sum : ℕ → ℕ → ℕ → ℕ → ℕ
 sum a b c d = bitXor (bitXor (bitXor a b) c) d
 
+pub sum-cong :
+    {a b c d p q r s : ℕ} → a ≡ p → b ≡ q → c ≡ r → d ≡ s → sum a b c d ≡ sum p q r s
+sum-cong ea eb ec ed = ap₂ bitXor (ap₂ bitXor (ap₂ bitXor ea eb) ec) ed
+
 pub sum-xor :
     (a b c d p q r s : ℕ)
     → sum (bitXor a p) (bitXor b q) (bitXor c r) (bitXor d s) ≡ bitXor (sum a b c d) (sum p q r s)
@@ -56,18 +58,15 @@ bit-sum a b c d =
     ∙ ap (λ (n : ℕ). bitXor n (bitStep d 0))
     (bit-xor (bitXor a b) c ∙ ap (λ (n : ℕ). bitXor n (bitStep c 0)) (bit-xor a b))
 
--- What the multiple makes of a register: it is to be the register again.
+-- The register moved past 300 zero bytes, added to itself moved past 155, 117 and 89. It is to be the register again.
 unfoldable pub spared : ℕ → ℕ
 spared r = sum (moved 300 r) (moved 155 r) (moved 117 r) (moved 89 r)
-
-pub sum-cong :
-    {a b c d p q r s : ℕ} → a ≡ p → b ≡ q → c ≡ r → d ≡ s → sum a b c d ≡ sum p q r s
-sum-cong ea eb ec ed = ap₂ bitXor (ap₂ bitXor (ap₂ bitXor ea eb) ec) ed
 
 spared-xor : (a b : ℕ) → spared a ≡ a → spared b ≡ b → spared (bitXor a b) ≡ bitXor a b
 unfolding spared
 spared-xor a b ea eb =
-    sum-cong (zeros-xor byteStep byte-xor 300 a b) (zeros-xor byteStep byte-xor 155 a b) (zeros-xor byteStep byte-xor 117 a b) (zeros-xor byteStep byte-xor 89 a b)
+    let apart : (n : ℕ) → moved n (bitXor a b) ≡ bitXor (moved n a) (moved n b) = λ n. zeros-xor byteStep byte-xor n a b in
+    sum-cong (apart 300) (apart 155) (apart 117) (apart 89)
     ∙ sum-xor (moved 300 a) (moved 155 a) (moved 117 a) (moved 89 a) (moved 300 b) (moved 155 b) (moved 117 b) (moved 89 b)
     ∙ ap₂ bitXor ea eb
 
@@ -78,12 +77,12 @@ spared-bit r e =
     ∙ sym (bit-sum (moved 300 r) (moved 155 r) (moved 117 r) (moved 89 r))
     ∙ ap (λ (n : ℕ). bitStep n 0) e
 
--- Computed: the byte's highest bit.
+-- Computed for a byte's highest bit.
 spared-top : spared (byteStep 0 128) ≡ byteStep 0 128
 unfolding bits reversed polynomial bitStep byteStep zeros spared
 spared-top = refl
 
--- Of a byte added to a register of zero.
+-- So for what a byte makes of a register of zero.
 abbrev Spared : ℕ → Type 0
 Spared b = spared (byteStep 0 b) ≡ byteStep 0 b
 
@@ -126,7 +125,7 @@ bits-spared =
     more 7 b7 (more 6 b6 (more 5 b5 (more 4 b4 (more 3 b3 (more 2 b2 (more 1 b1 (more 0 b0
     (λ b h. subst Spared (sym (lt-one h)) none))))))))
 
--- What a byte makes of a register of zero is spared.
+-- And so for every byte.
 pub byte-spared : (b : ℕ) → spared (byteStep 0 b) ≡ byteStep 0 b
 byte-spared b = subst (λ (r : ℕ). spared r ≡ r) (sym (byte-low 0 b)) (bits-spared (b % 256) (omega arith))
 

@@ -1,6 +1,6 @@
 -- The entries of the sixteen rows: the first 256 are the row itself, and each other follows from the one a row before it.
 -- So what `fill_rows` leaves is what `run` may be lent, if the first row is linear.
-use Prim.Native.Nat.{ℕ, zero, suc, _+_, _-_, _*_, _/_, _%_, _≤_, _<_}
+use Prim.Native.Nat.{ℕ, suc, _+_, _-_, _*_, _/_, _%_, _≤_, _<_}
 use mathlib.Core.Path.{_≡_, refl, sym, ap, ap₂, subst, _∙_}
 use mathlib.Core.List.{List}
 use native.Mathlib.Omega.{arith}

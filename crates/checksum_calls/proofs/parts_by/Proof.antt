@@ -1,13 +1,12 @@
 -- `parts_by` meets its contract: after k turns the sum is that of the first k parts.
-use Prim.Native.Nat.{ℕ, _+_, _*_, _-_, _/_, _≤_, _<_}
+use Prim.Native.Nat.{_*_, _-_, _/_, _≤_}
 use mathlib.Core.Path.{_≡_, refl, ap, ap₂, _∙_}
 use mathlib.Core.Logic.{inr}
 use native.Mathlib.Omega.{arith}
 use native.Mathlib.Nat.{div-le-self}
 use native.Mathlib.Numerals.{add-one}
 use lib.Bits.{bitXor}
-use lib.ListN.{length, take, drop}
-use borrow.Author.Needs.{needs}
+use lib.ListN.{length}
 use Rattle.crc32.specs.Crc.{crc}
 use Rattle.checksum_calls.specs.Parts.{sumOfParts}
 use Rattle.checksum_calls.proofs.Parts.{part-within, part-there, sum-more}
@@ -28,10 +27,16 @@ unfolding sumOfParts
 loop-holds c = (omega arith, refl)
 
 mul-from : tie.Need-mul-from Inv-loop μ-loop
-mul-from c = omega (arith, part-within (length (c .before .before .before .before .args .bytes .now)) (c .before .before .before .before .args .size) (c .before .loop .k) (c .before .before .before .before .pre .1) (omega arith))
+mul-from c =
+    let start = c .before .before .before .before in
+    omega
+    (arith, part-within (length (start .args .bytes .now)) (start .args .size) (c .before .loop .k) (start .pre .1) (omega arith))
 
 add-crc32-by : tie.Need-add-crc32-by Inv-loop μ-loop
-add-crc32-by c = omega (arith, part-within (length (c .before .before .before .before .args .bytes .now)) (c .before .before .before .before .args .size) (c .before .loop .k) (c .before .before .before .before .pre .1) (omega arith))
+add-crc32-by c =
+    let start = c .before .before .before .before in
+    omega
+    (arith, part-within (length (start .args .bytes .now)) (start .args .size) (c .before .loop .k) (start .pre .1) (omega arith))
 
 sub-crc32-by : tie.Need-sub-crc32-by Inv-loop μ-loop
 sub-crc32-by c = omega arith
@@ -40,7 +45,10 @@ part-crc32-by-start : tie.Need-part-crc32-by-start Inv-loop μ-loop
 part-crc32-by-start c = omega arith
 
 part-crc32-by-end : tie.Need-part-crc32-by-end Inv-loop μ-loop
-part-crc32-by-end c = omega (arith, part-within (length (c .before .before .before .before .args .bytes .now)) (c .before .before .before .before .args .size) (c .before .loop .k) (c .before .before .before .before .pre .1) (omega arith))
+part-crc32-by-end c =
+    let start = c .before .before .before .before in
+    omega
+    (arith, part-within (length (start .args .bytes .now)) (start .args .size) (c .before .loop .k) (start .pre .1) (omega arith))
 
 crc32-by-requires : tie.Need-crc32-by-requires Inv-loop μ-loop
 crc32-by-requires c κs = inr (c .before .before .before .before .before .pre .0)
@@ -57,11 +65,13 @@ loop-again : tie.Need-loop-again Inv-loop μ-loop
 loop-again c =
     let head = c .before .before .before in
     let args = head .before .before .before .args in
-    (omega arith, rw (add-one, sum-more) (ap₂ bitXor (head .loop .inv .1) (c .crc32-by .ensures ∙ ap crc (part-there (args .bytes .now) (head .loop .k * args .size) (args .size)))))
+    let part = part-there (args .bytes .now) (head .loop .k * args .size) (args .size) in
+    (omega arith, rw (add-one, sum-more) (ap₂ bitXor (head .loop .inv .1) (c .crc32-by .ensures ∙ ap crc part)))
 
 returns : tie.Need-returns Inv-loop μ-loop
 returns c =
-    let end : c .before .loop .k ≡ length (c .before .before .before .before .args .bytes .now) / c .before .before .before .before .args .size = omega arith in
+    let args = c .before .before .before .before .args in
+    let end : c .before .loop .k ≡ length (args .bytes .now) / args .size = omega arith in
     c .before .loop .inv .1 ∙ ap (sumOfParts _ _) end
 
 pub parts-by-spec : {M : Type 1} → statement M

@@ -1,7 +1,6 @@
 -- `crc32_by` meets its contract: tables that are not empty hold the rows, and slicing by them takes the bytes as the
 -- register does.
 use mathlib.Core.Path.{_∙_}
-use mathlib.Core.Logic.{⊎-elim}
 use native.Mathlib.Omega.{arith}
 use borrow.Author.Needs.{needs}
 use Rattle.crc32.specs.Crc.{register}
