@@ -3,6 +3,6 @@
 // Internal: what a single call lends. Filling the tables would take longer than it saves.
 pub const NO_TABLES: [u32; 0] = [];
 
-// Internal: the shortest volume for which a walk fills the tables. Filling costs about as much as the checksum of that many
-// bytes, one at a time.
+// Internal: the shortest volume for which a walk fills the tables. In a shorter one of small blocks they save less time than
+// filling them takes.
 pub const FILL_FROM: usize = 1280;

@@ -1,7 +1,7 @@
-// The checksum alone, for C and Rust: what tests and measurements call. It is no part of the library's boundary.
+// The checksum alone, for tests and measurements from outside. It is no part of the library's boundary, so all is internal.
 //
-// Public calls: `checksum_alone`, `checksum_lent`, which lends tables filled for the call, and `checksum_of_parts`, which
-// fills them once for many checksums, as a walk over blocks does.
+// Calls: `checksum_alone`; `checksum_lent`, which lends tables filled for the call; `checksum_of_parts`, which fills them once
+// for many checksums, as a walk over blocks does.
 ghost use mathlib.Core.Path.{_≡_};
 ghost use Prim.Native.Nat.{_/_, _<_};
 ghost use lib.ListN.{length};
@@ -9,7 +9,7 @@ ghost use Rattle.crc32.specs.Crc.{crc};
 ghost use Rattle.crc32.specs.inner.Tables.{crcRows};
 ghost use Rattle.checksum_calls.specs.Parts.{sumOfParts};
 
-// The checksum of the bytes.
+// Internal: the checksum of the bytes.
 #[no_mangle]
 pub extern "C" fn checksum_alone(bytes: &[u8]) -> u32
     ensures { λ r. ⌜ r ≡ crc (now (bytes .entry)) ⌝ }
@@ -17,7 +17,7 @@ pub extern "C" fn checksum_alone(bytes: &[u8]) -> u32
     crc32::crc32(bytes)
 }
 
-// The same by tables.
+// Internal: the same by tables.
 #[no_mangle]
 pub extern "C" fn checksum_lent(bytes: &[u8]) -> u32
     ensures { λ r. ⌜ r ≡ crc (now (bytes .entry)) ⌝ }
@@ -43,7 +43,7 @@ fn parts_by(tables: &[u32], bytes: &[u8], size: usize) -> u32
     sum
 }
 
-// The same with tables filled once. What is left after the last whole part is not counted; parts of size 0 are none.
+// Internal: the same with tables filled once. What is left after the last whole part is not counted; parts of size 0 are none.
 #[no_mangle]
 pub extern "C" fn checksum_of_parts(bytes: &[u8], size: usize) -> u32
     ensures { λ r. ⌜ r ≡ sumOfParts (now (bytes .entry)) size (length (now (bytes .entry)) / size) ⌝ }
