@@ -59,7 +59,7 @@ fn readme_states_the_version_of_rust() {
 
 /// Runs the script that shows proofs, with a program in the place of `rt` that prints some lines.
 fn prove(folder: &Folder, status: i32) -> (Option<i32>, String, String) {
-    let rt = "#!/bin/sh\necho \"asked $*\"\nfor name in number crc32 utf8 checks; do\n\
+    let rt = "#!/bin/sh\necho \"asked $*\"\nfor name in number slicing folding crc32; do\n\
               echo \"rt: $name proved\"\ndone\necho the end\n";
     folder.put("rt", format!("{rt}exit {status}\n").as_bytes());
     let runs = fs::Permissions::from_mode(0o755);
@@ -85,7 +85,7 @@ fn proofs_are_shown_with_a_count() {
     assert_eq!(lines.len(), 5);
     assert!(lines[0].starts_with("0 of "), "{out}");
     assert!(
-        lines[0].ends_with(" crates proved, now: number crc32"),
+        lines[0].ends_with(" crates proved, now: number slicing"),
         "{out}"
     );
     assert!(lines[4].starts_with("4 of "), "{out}");
