@@ -71,12 +71,12 @@ fn wordwise(first: u32, bytes: &[u8]) -> u32
     ensures { λ last. ⌜ last ≡ foldl byteStep first (now (bytes .entry)) ⌝ }
 {
     let mut register = first;
-    let mut i = 0;
-    while 4 <= bytes.len() - i {
-        register = four_steps(register, &bytes[i..i + 4]);
-        i += 4;
+    let mut taken = 0;
+    while 4 <= bytes.len() - taken {
+        register = four_steps(register, &bytes[taken..taken + 4]);
+        taken += 4;
     }
-    bytewise(register, &bytes[i..])
+    bytewise(register, &bytes[taken..])
 }
 
 // The register after the bytes, one at a time.

@@ -1,4 +1,4 @@
--- `wordwise` meets its contract: before each turn the local register is that of the first i bytes.
+-- `wordwise` meets its contract: before each turn the local register is that of the bytes taken.
 use Prim.Native.Nat.{_-_, _≤_}
 use mathlib.Core.Path.{_≡_, refl}
 use mathlib.Core.List.{foldl}
@@ -11,10 +11,10 @@ use Rattle.crc32.proofs.wordwise.Statement.{statement}
 use Rattle.crc32.proofs.wordwise.Tie as tie
 
 abbrev Inv-loop : tie.InvT-loop
-Inv-loop first bytes current₀ i₀ current i = (i ≤ length bytes) × (current ≡ foldl byteStep first (take i bytes))
+Inv-loop first bytes current₀ taken₀ current taken = (taken ≤ length bytes) × (current ≡ foldl byteStep first (take taken bytes))
 
 abbrev μ-loop : tie.MeasureT-loop
-μ-loop first bytes current₀ i₀ current i = length bytes - i
+μ-loop first bytes current₀ taken₀ current taken = length bytes - taken
 
 loop-holds : tie.Need-loop-holds Inv-loop μ-loop
 loop-holds c = (search needs, refl)
@@ -37,8 +37,8 @@ part-four-steps-end c = search needs
 four-steps-requires : tie.Need-four-steps-requires Inv-loop μ-loop
 four-steps-requires c κs = search needs
 
-add-i : tie.Need-add-i Inv-loop μ-loop
-add-i c = search needs
+add-taken : tie.Need-add-taken Inv-loop μ-loop
+add-taken c = search needs
 
 loop-less : tie.Need-loop-less Inv-loop μ-loop
 loop-less c = search needs
@@ -47,7 +47,7 @@ loop-again : tie.Need-loop-again Inv-loop μ-loop
 loop-again c =
     let head = c .before .before .before in
     let args = head .before .before .args in
-    (omega arith, some-more byteStep (args .bytes .now) (args .first) _ _ (head .loop .i) (head .loop .inv .1) 4 (c .four-steps .ensures))
+    (omega arith, some-more byteStep (args .bytes .now) (args .first) _ _ (head .loop .taken) (head .loop .inv .1) 4 (c .four-steps .ensures))
 
 sub-bytewise : tie.Need-sub-bytewise Inv-loop μ-loop
 sub-bytewise c = search needs
@@ -65,7 +65,7 @@ returns : tie.Need-returns Inv-loop μ-loop
 returns c =
     let head = c .before .before .before in
     let args = head .before .before .args in
-    the-rest byteStep (args .bytes .now) (args .first) _ _ (head .loop .i) (head .loop .inv .1) (c .bytewise .ensures)
+    the-rest byteStep (args .bytes .now) (args .first) _ _ (head .loop .taken) (head .loop .inv .1) (c .bytewise .ensures)
 
 pub wordwise-spec : {M : Type 1} → statement M
 wordwise-spec =
@@ -80,7 +80,7 @@ wordwise-spec =
     part-four-steps-start
     part-four-steps-end
     four-steps-requires
-    add-i
+    add-taken
     loop-less
     loop-again
     sub-bytewise
