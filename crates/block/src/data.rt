@@ -1,7 +1,6 @@
 // Data blocks: ID 1, time 8, n 8, payload n, CRC 4.
 use crate::Block;
 use crate::DataBlock;
-use crate::Decoded;
 use crate::Part;
 use crate::seal::sealed_fault;
 use refusal::CUT_SHORT;
@@ -12,7 +11,7 @@ ghost use Rattle.format.specs.Blocks.{dataBlock};
 ghost use Rattle.crc32.specs.inner.Tables.{Lent};
 ghost use Rattle.checks.specs.Checks.{firstFault};
 ghost use Rattle.block.specs.Order.{kindOrder};
-ghost use Rattle.block.specs.inner.Decoded.{decodedOf};
+ghost use Rattle.block.specs.inner.Decoded.{blockOf};
 ghost use Rattle.block.specs.Fields.{bodyEnd};
 
 // The first fault of the data block at `offset`.
@@ -30,9 +29,9 @@ pub(crate) fn data_fault(tables: &[u32], volume: &[u8], offset: usize) -> u64
 }
 
 // The data block at `offset`.
-pub(crate) fn decode_data(volume: &[u8], offset: usize) -> Decoded
+pub(crate) fn decode_data(volume: &[u8], offset: usize) -> Block
     requires { ⌜ bodyEnd dataBlock (now volume) offset + 4 ≤ length (now volume) ⌝ }
-    ensures { λ r. ⌜ r ≡ decodedOf dataBlock (now (volume .entry)) offset ⌝ }
+    ensures { λ r. ⌜ r ≡ blockOf dataBlock (now (volume .entry)) offset ⌝ }
 {
     let n = number::read_u64(volume, offset + 9) as usize;
     let data = DataBlock {
@@ -42,8 +41,14 @@ pub(crate) fn decode_data(volume: &[u8], offset: usize) -> Decoded
             len: n,
         },
     };
-    Decoded {
-        block: Block::Data(data),
-        end: offset + 17 + n + 4,
-    }
+    Block::Data(data)
+}
+
+// The offset after the data block at `offset`.
+pub(crate) fn data_end(volume: &[u8], offset: usize) -> usize
+    requires { ⌜ bodyEnd dataBlock (now volume) offset + 4 ≤ length (now volume) ⌝ }
+    ensures { λ r. ⌜ r ≡ bodyEnd dataBlock (now (volume .entry)) offset + 4 ⌝ }
+{
+    let n = number::read_u64(volume, offset + 9) as usize;
+    offset + 17 + n + 4
 }

@@ -1,6 +1,5 @@
 // Inode blocks: ID 1, inode 8, time 8, mode 2, uid 2, gid 2, atime 8, mtime 8, ctime 8, btime 8, size 8, n 8, n bytes, CRC 4.
 use crate::Block;
-use crate::Decoded;
 use crate::InodeBlock;
 use crate::Part;
 use crate::seal::sealed_fault;
@@ -19,7 +18,7 @@ ghost use Rattle.format.specs.Blocks.{inodeBlock, fileType, regular, symbolicLi
 ghost use Rattle.crc32.specs.inner.Tables.{Lent};
 ghost use Rattle.checks.specs.Checks.{firstFault};
 ghost use Rattle.block.specs.Order.{kindOrder, tooLong, restOrder};
-ghost use Rattle.block.specs.inner.Decoded.{decodedOf};
+ghost use Rattle.block.specs.inner.Decoded.{blockOf};
 ghost use Rattle.block.specs.Fields.{bodyEnd};
 ghost use Rattle.block.specs.inner.Parts.{sealedOrder};
 
@@ -143,9 +142,9 @@ pub(crate) fn inode_fault(tables: &[u32], volume: &[u8], offset: usize) -> u64
 }
 
 // The inode block at `offset`.
-pub(crate) fn decode_inode(volume: &[u8], offset: usize) -> Decoded
+pub(crate) fn decode_inode(volume: &[u8], offset: usize) -> Block
     requires { ⌜ bodyEnd inodeBlock (now volume) offset + 4 ≤ length (now volume) ⌝ }
-    ensures { λ r. ⌜ r ≡ decodedOf inodeBlock (now (volume .entry)) offset ⌝ }
+    ensures { λ r. ⌜ r ≡ blockOf inodeBlock (now (volume .entry)) offset ⌝ }
 {
     let n = number::read_u64(volume, offset + 63) as usize;
     let inode = InodeBlock {
@@ -164,8 +163,14 @@ pub(crate) fn decode_inode(volume: &[u8], offset: usize) -> Decoded
             len: n,
         },
     };
-    Decoded {
-        block: Block::Inode(inode),
-        end: offset + 71 + n + 4,
-    }
+    Block::Inode(inode)
+}
+
+// The offset after the inode block at `offset`.
+pub(crate) fn inode_end(volume: &[u8], offset: usize) -> usize
+    requires { ⌜ bodyEnd inodeBlock (now volume) offset + 4 ≤ length (now volume) ⌝ }
+    ensures { λ r. ⌜ r ≡ bodyEnd inodeBlock (now (volume .entry)) offset + 4 ⌝ }
+{
+    let n = number::read_u64(volume, offset + 63) as usize;
+    offset + 71 + n + 4
 }

@@ -1,9 +1,10 @@
 // A block at an offset of a volume: its checks up to the time, its fields, and where its variable parts stand.
 //
 // There is no bookmark here: everything goes by the volume's bytes and plain numbers. Calls: `block_fault`, the first
-// fault of a block; `decode`, the block where there is none; `sum_wrong`, the test of a checksum. `volume` calls them.
-// Each kind of block has a file, with its checks and its decoding; `request` calls the checks of an inode's n bytes, which
-// are the same in writing. `limits` has the limits of a volume and of a table.
+// fault of a block; where there is none, `decode`, the block, and `end_at`, the offset after it; `sum_wrong`, the test of
+// a checksum. `volume` calls them.
+// Each kind of block has a file, with its checks, its decoding and its end; `request` calls the checks of an inode's n bytes,
+// which are the same in writing. `limits` has the limits of a volume and of a table.
 // `tables` is empty, or the tables of crc32: filled once by a walk and lent to every block. `lending` has what lenders share.
 mod data;
 pub mod inode;
@@ -27,9 +28,9 @@ ghost use Prim.Native.Nat.{_+_, _≤_, _<_};
 ghost use lib.ListN.{length};
 ghost use Rattle.crc32.specs.inner.Tables.{Lent};
 ghost use Rattle.checks.specs.Checks.{firstFault};
-ghost use Rattle.block.specs.Fields.{kindWith, kindAt};
+ghost use Rattle.block.specs.Fields.{kindWith, kindAt, bodyEnd};
 ghost use Rattle.block.specs.Order.{volumeLimit, unknownId, wrongPlace, checksumWrong, kindOrder, blockOrder};
-ghost use Rattle.block.specs.inner.Decoded.{decodedAt};
+ghost use Rattle.block.specs.inner.Decoded.{blockAt};
 
 // A part of the volume: where it begins and how long it is.
 pub struct Part {
@@ -102,12 +103,6 @@ pub enum Block {
     Table(TableBlock),
 }
 
-// A block, and the offset after it, where the next one begins.
-pub struct Decoded {
-    pub block: Block,
-    pub end: usize,
-}
-
 // Whether no kind of block has the ID.
 fn is_unknown(id: u8) -> bool
     ensures { λ r. ⌜ r ≡ unknownId id ⌝ }
@@ -164,10 +159,10 @@ pub fn block_fault(tables: &[u32], volume: &[u8], offset: usize, due: bool) -> u
     kind_fault(tables, volume, offset, id)
 }
 
-// Internal: the block at `offset`, where its kind's checks find no fault, and the offset after it.
-pub fn decode(volume: &[u8], offset: usize) -> Decoded
+// Internal: the block at `offset`, where its kind's checks find no fault.
+pub fn decode(volume: &[u8], offset: usize) -> Block
     requires { ⌜ firstFault (kindOrder (kindAt (now volume) offset) (now volume) offset) ≡ 0 ⌝ }
-    ensures { λ r. ⌜ r ≡ decodedAt (now (volume .entry)) offset ⌝ }
+    ensures { λ r. ⌜ r ≡ blockAt (now (volume .entry)) offset ⌝ }
 {
     match number::read_u8(volume, offset) {
         1 => inode::decode_inode(volume, offset),
@@ -178,6 +173,24 @@ pub fn decode(volume: &[u8], offset: usize) -> Decoded
         6 => data::decode_data(volume, offset),
         7 => rename::decode_rename(volume, offset),
         _ => table::decode_table(volume, offset),
+    }
+}
+
+// Internal: the offset after the block at `offset`, where its kind's checks find no fault. It looks at the lengths alone, so a
+// walk that needs no block decodes none.
+pub fn end_at(volume: &[u8], offset: usize) -> usize
+    requires { ⌜ firstFault (kindOrder (kindAt (now volume) offset) (now volume) offset) ≡ 0 ⌝ }
+    ensures { λ r. ⌜ r ≡ bodyEnd (kindAt (now (volume .entry)) offset) (now (volume .entry)) offset + 4 ⌝ }
+{
+    match number::read_u8(volume, offset) {
+        1 => inode::inode_end(volume, offset),
+        2 => link::link_end(volume, offset),
+        3 => link::link_end(volume, offset),
+        4 => xattr::xattr_end(volume, offset),
+        5 => xattr::removed_xattr_end(volume, offset),
+        6 => data::data_end(volume, offset),
+        7 => rename::rename_end(volume, offset),
+        _ => table::table_end(volume, offset),
     }
 }
 

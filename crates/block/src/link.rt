@@ -1,6 +1,5 @@
 // Link and unlink blocks, which have one layout: ID 1, time 8, child 8, parent 8, n 2, name n, CRC 4.
 use crate::Block;
-use crate::Decoded;
 use crate::LinkBlock;
 use crate::Part;
 use crate::text::text_fault;
@@ -12,7 +11,7 @@ ghost use Rattle.format.specs.Blocks.{linkBlock, unlinkBlock};
 ghost use Rattle.crc32.specs.inner.Tables.{Lent};
 ghost use Rattle.checks.specs.Checks.{firstFault};
 ghost use Rattle.block.specs.Order.{kindOrder};
-ghost use Rattle.block.specs.inner.Decoded.{linkBlockOf, decodedOf};
+ghost use Rattle.block.specs.inner.Decoded.{linkBlockOf, blockOf};
 ghost use Rattle.block.specs.Fields.{fieldAt, bodyEnd};
 
 // The first fault of the link block at `offset`. An unlink block has the same checks.
@@ -46,25 +45,28 @@ fn fields(volume: &[u8], offset: usize, n: usize) -> LinkBlock
 }
 
 // The link block at `offset`.
-pub(crate) fn decode_link(volume: &[u8], offset: usize) -> Decoded
+pub(crate) fn decode_link(volume: &[u8], offset: usize) -> Block
     requires { ⌜ bodyEnd linkBlock (now volume) offset + 4 ≤ length (now volume) ⌝ }
-    ensures { λ r. ⌜ r ≡ decodedOf linkBlock (now (volume .entry)) offset ⌝ }
+    ensures { λ r. ⌜ r ≡ blockOf linkBlock (now (volume .entry)) offset ⌝ }
 {
     let n = number::read_u16(volume, offset + 25) as usize;
-    Decoded {
-        block: Block::Link(fields(volume, offset, n)),
-        end: offset + 27 + n + 4,
-    }
+    Block::Link(fields(volume, offset, n))
 }
 
 // The unlink block at `offset`.
-pub(crate) fn decode_unlink(volume: &[u8], offset: usize) -> Decoded
+pub(crate) fn decode_unlink(volume: &[u8], offset: usize) -> Block
     requires { ⌜ bodyEnd unlinkBlock (now volume) offset + 4 ≤ length (now volume) ⌝ }
-    ensures { λ r. ⌜ r ≡ decodedOf unlinkBlock (now (volume .entry)) offset ⌝ }
+    ensures { λ r. ⌜ r ≡ blockOf unlinkBlock (now (volume .entry)) offset ⌝ }
 {
     let n = number::read_u16(volume, offset + 25) as usize;
-    Decoded {
-        block: Block::Unlink(fields(volume, offset, n)),
-        end: offset + 27 + n + 4,
-    }
+    Block::Unlink(fields(volume, offset, n))
+}
+
+// The offset after the link block at `offset`. An unlink block has the same layout.
+pub(crate) fn link_end(volume: &[u8], offset: usize) -> usize
+    requires { ⌜ bodyEnd linkBlock (now volume) offset + 4 ≤ length (now volume) ⌝ }
+    ensures { λ r. ⌜ r ≡ bodyEnd linkBlock (now (volume .entry)) offset + 4 ⌝ }
+{
+    let n = number::read_u16(volume, offset + 25) as usize;
+    offset + 27 + n + 4
 }

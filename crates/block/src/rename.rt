@@ -1,6 +1,5 @@
 // Rename blocks: ID 1, time 8, n 2, m 2, old path n, new path m, CRC 4.
 use crate::Block;
-use crate::Decoded;
 use crate::Part;
 use crate::RenameBlock;
 use crate::text::text_fault;
@@ -13,7 +12,7 @@ ghost use Rattle.format.specs.Blocks.{renameBlock};
 ghost use Rattle.crc32.specs.inner.Tables.{Lent};
 ghost use Rattle.checks.specs.Checks.{firstFault};
 ghost use Rattle.block.specs.Order.{kindOrder};
-ghost use Rattle.block.specs.inner.Decoded.{decodedOf};
+ghost use Rattle.block.specs.inner.Decoded.{blockOf};
 ghost use Rattle.block.specs.Fields.{bodyEnd};
 ghost use Rattle.block.specs.inner.Parts.{pathsOrder};
 
@@ -50,9 +49,9 @@ pub(crate) fn rename_fault(tables: &[u32], volume: &[u8], offset: usize) -> u64
 }
 
 // The rename block at `offset`.
-pub(crate) fn decode_rename(volume: &[u8], offset: usize) -> Decoded
+pub(crate) fn decode_rename(volume: &[u8], offset: usize) -> Block
     requires { ⌜ bodyEnd renameBlock (now volume) offset + 4 ≤ length (now volume) ⌝ }
-    ensures { λ r. ⌜ r ≡ decodedOf renameBlock (now (volume .entry)) offset ⌝ }
+    ensures { λ r. ⌜ r ≡ blockOf renameBlock (now (volume .entry)) offset ⌝ }
 {
     let n = number::read_u16(volume, offset + 9) as usize;
     let m = number::read_u16(volume, offset + 11) as usize;
@@ -67,8 +66,15 @@ pub(crate) fn decode_rename(volume: &[u8], offset: usize) -> Decoded
             len: m,
         },
     };
-    Decoded {
-        block: Block::Rename(rename),
-        end: offset + 13 + (n + m) + 4,
-    }
+    Block::Rename(rename)
+}
+
+// The offset after the rename block at `offset`.
+pub(crate) fn rename_end(volume: &[u8], offset: usize) -> usize
+    requires { ⌜ bodyEnd renameBlock (now volume) offset + 4 ≤ length (now volume) ⌝ }
+    ensures { λ r. ⌜ r ≡ bodyEnd renameBlock (now (volume .entry)) offset + 4 ⌝ }
+{
+    let n = number::read_u16(volume, offset + 9) as usize;
+    let m = number::read_u16(volume, offset + 11) as usize;
+    offset + 13 + (n + m) + 4
 }

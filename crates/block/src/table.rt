@@ -1,6 +1,5 @@
 // Link tables: ID 1, link count 8, the links, CRC 4.
 use crate::Block;
-use crate::Decoded;
 use crate::Part;
 use crate::TableBlock;
 use crate::limits::MAX_LINKS;
@@ -17,7 +16,7 @@ ghost use Rattle.format.specs.Blocks.{linkTable};
 ghost use Rattle.crc32.specs.inner.Tables.{Lent};
 ghost use Rattle.checks.specs.Checks.{firstFault};
 ghost use Rattle.block.specs.Order.{volumeLimit, kindOrder};
-ghost use Rattle.block.specs.inner.Decoded.{decodedOf};
+ghost use Rattle.block.specs.inner.Decoded.{blockOf};
 ghost use Rattle.block.specs.Fields.{bodyEnd, fieldAt};
 ghost use Rattle.links.specs.Links.{linkStart};
 ghost use Rattle.block.specs.inner.Parts.{sealedOrder, linksOrder};
@@ -78,9 +77,9 @@ pub(crate) fn table_fault(tables: &[u32], volume: &[u8], offset: usize) -> u64
 }
 
 // The link table at `offset`.
-pub(crate) fn decode_table(volume: &[u8], offset: usize) -> Decoded
+pub(crate) fn decode_table(volume: &[u8], offset: usize) -> Block
     requires { ⌜ (bodyEnd linkTable (now volume) offset + 4 ≤ length (now volume)) × (fieldAt linkTable "link count" (now volume) offset ≤ 4096) ⌝ }
-    ensures { λ r. ⌜ r ≡ decodedOf linkTable (now (volume .entry)) offset ⌝ }
+    ensures { λ r. ⌜ r ≡ blockOf linkTable (now (volume .entry)) offset ⌝ }
 {
     let from = offset + 9;
     let count = number::read_u64(volume, offset + 1);
@@ -89,8 +88,15 @@ pub(crate) fn decode_table(volume: &[u8], offset: usize) -> Decoded
         count,
         links: Part { offset: from, len },
     };
-    Decoded {
-        block: Block::Table(table),
-        end: from + len + 4,
-    }
+    Block::Table(table)
+}
+
+// The offset after the link table at `offset`.
+pub(crate) fn table_end(volume: &[u8], offset: usize) -> usize
+    requires { ⌜ (bodyEnd linkTable (now volume) offset + 4 ≤ length (now volume)) × (fieldAt linkTable "link count" (now volume) offset ≤ 4096) ⌝ }
+    ensures { λ r. ⌜ r ≡ bodyEnd linkTable (now (volume .entry)) offset + 4 ⌝ }
+{
+    let from = offset + 9;
+    let count = number::read_u64(volume, offset + 1);
+    from + len_of_links(volume, from, count) + 4
 }

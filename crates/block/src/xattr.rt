@@ -1,6 +1,5 @@
 // Xattr blocks: ID 1, time 8, inode 8, n 1, m 2, name n, value m, CRC 4; removed ones have no m and no value.
 use crate::Block;
-use crate::Decoded;
 use crate::Part;
 use crate::RemovedXattrBlock;
 use crate::XattrBlock;
@@ -13,7 +12,7 @@ ghost use Rattle.format.specs.Blocks.{xattrBlock, removedXattrBlock};
 ghost use Rattle.crc32.specs.inner.Tables.{Lent};
 ghost use Rattle.checks.specs.Checks.{firstFault};
 ghost use Rattle.block.specs.Order.{kindOrder};
-ghost use Rattle.block.specs.inner.Decoded.{decodedOf};
+ghost use Rattle.block.specs.inner.Decoded.{blockOf};
 ghost use Rattle.block.specs.Fields.{bodyEnd};
 
 // The first fault of the xattr block at `offset`. Its value is raw bytes.
@@ -46,9 +45,9 @@ pub(crate) fn removed_xattr_fault(tables: &[u32], volume: &[u8], offset: usize) 
 }
 
 // The xattr block at `offset`.
-pub(crate) fn decode_xattr(volume: &[u8], offset: usize) -> Decoded
+pub(crate) fn decode_xattr(volume: &[u8], offset: usize) -> Block
     requires { ⌜ bodyEnd xattrBlock (now volume) offset + 4 ≤ length (now volume) ⌝ }
-    ensures { λ r. ⌜ r ≡ decodedOf xattrBlock (now (volume .entry)) offset ⌝ }
+    ensures { λ r. ⌜ r ≡ blockOf xattrBlock (now (volume .entry)) offset ⌝ }
 {
     let n = number::read_u8(volume, offset + 17) as usize;
     let m = number::read_u16(volume, offset + 18) as usize;
@@ -64,16 +63,13 @@ pub(crate) fn decode_xattr(volume: &[u8], offset: usize) -> Decoded
             len: m,
         },
     };
-    Decoded {
-        block: Block::Xattr(xattr),
-        end: offset + 20 + (n + m) + 4,
-    }
+    Block::Xattr(xattr)
 }
 
 // The removed xattr block at `offset`.
-pub(crate) fn decode_removed_xattr(volume: &[u8], offset: usize) -> Decoded
+pub(crate) fn decode_removed_xattr(volume: &[u8], offset: usize) -> Block
     requires { ⌜ bodyEnd removedXattrBlock (now volume) offset + 4 ≤ length (now volume) ⌝ }
-    ensures { λ r. ⌜ r ≡ decodedOf removedXattrBlock (now (volume .entry)) offset ⌝ }
+    ensures { λ r. ⌜ r ≡ blockOf removedXattrBlock (now (volume .entry)) offset ⌝ }
 {
     let n = number::read_u8(volume, offset + 17) as usize;
     let removed = RemovedXattrBlock {
@@ -84,8 +80,24 @@ pub(crate) fn decode_removed_xattr(volume: &[u8], offset: usize) -> Decoded
             len: n,
         },
     };
-    Decoded {
-        block: Block::RemovedXattr(removed),
-        end: offset + 18 + n + 4,
-    }
+    Block::RemovedXattr(removed)
+}
+
+// The offset after the xattr block at `offset`.
+pub(crate) fn xattr_end(volume: &[u8], offset: usize) -> usize
+    requires { ⌜ bodyEnd xattrBlock (now volume) offset + 4 ≤ length (now volume) ⌝ }
+    ensures { λ r. ⌜ r ≡ bodyEnd xattrBlock (now (volume .entry)) offset + 4 ⌝ }
+{
+    let n = number::read_u8(volume, offset + 17) as usize;
+    let m = number::read_u16(volume, offset + 18) as usize;
+    offset + 20 + (n + m) + 4
+}
+
+// The offset after the removed xattr block at `offset`.
+pub(crate) fn removed_xattr_end(volume: &[u8], offset: usize) -> usize
+    requires { ⌜ bodyEnd removedXattrBlock (now volume) offset + 4 ≤ length (now volume) ⌝ }
+    ensures { λ r. ⌜ r ≡ bodyEnd removedXattrBlock (now (volume .entry)) offset + 4 ⌝ }
+{
+    let n = number::read_u8(volume, offset + 17) as usize;
+    offset + 18 + n + 4
 }

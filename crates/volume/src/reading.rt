@@ -3,27 +3,29 @@ use crate::Bookmark;
 use crate::Found;
 use crate::LastTime;
 use crate::ReadAnswer;
-use block::Block;
 use block::lending::NO_TABLES;
 use block::limits::HEADER_LEN;
 use block::limits::VOLUME_LIMIT;
 use refusal::OVER_LIMIT;
 use refusal::TIME_LOWER;
-use refusal::refuse;
 use texts::refusal_at;
 ghost use mathlib.Core.Path.{_≡_};
+ghost use mathlib.Core.Bool.{false};
 ghost use Prim.Native.Nat.{_<_};
+ghost use lib.ListN.{length};
 ghost use Rattle.crc32.specs.inner.Tables.{Lent};
 ghost use Rattle.checks.specs.Checks.{firstFault};
 ghost use Rattle.format.specs.Extents.{top};
-ghost use Rattle.block.specs.inner.Decoded.{timeOfBlock};
-ghost use Rattle.volume.specs.Reading.{asOption, isEnd, mayFollow, countFull, followOrder, markAfter, readAnswer};
+ghost use Rattle.block.specs.Fields.{idAt};
+ghost use Rattle.block.specs.Order.{unknownId};
+ghost use Rattle.block.specs.inner.Decoded.{blockAt, timeOfBlock};
+ghost use Rattle.volume.specs.Reading.{asOption, isEnd, mayFollow, countFull, followOrder, readFault, markAfter, nextMark, readAnswer};
 
 // The most blocks that a bookmark can count.
 const MOST_BLOCKS: u64 = 18446744073709551615;
 
 // Whether the bookmark stands at the end of the volume, with nothing due there.
-fn is_end(volume: &[u8], mark: Bookmark) -> bool
+pub(crate) fn is_end(volume: &[u8], mark: Bookmark) -> bool
     ensures { λ r. ⌜ r ≡ isEnd (now (volume .entry)) mark ⌝ }
 {
     if VOLUME_LIMIT < volume.len() {
@@ -38,19 +40,16 @@ fn is_end(volume: &[u8], mark: Bookmark) -> bool
     !mark.due
 }
 
-// The time of a block, if it has one.
-fn time_of(block: Block) -> LastTime
-    ensures { λ r. ⌜ asOption r ≡ timeOfBlock block ⌝ }
+// The time of the block at `offset`, if it has one. It stands after the ID, and in an inode block after the inode's number; a
+// table has none.
+fn time_at(volume: &[u8], offset: usize) -> LastTime
+    requires { ⌜ (offset < length (now volume)) × (unknownId (idAt (now volume) offset) ≡ false) ⌝ }
+    ensures { λ r. ⌜ asOption r ≡ timeOfBlock (blockAt (now (volume .entry)) offset) ⌝ }
 {
-    match block {
-        Block::Inode(b) => LastTime::At(b.time),
-        Block::Link(b) => LastTime::At(b.time),
-        Block::Unlink(b) => LastTime::At(b.time),
-        Block::Xattr(b) => LastTime::At(b.time),
-        Block::RemovedXattr(b) => LastTime::At(b.time),
-        Block::Data(b) => LastTime::At(b.time),
-        Block::Rename(b) => LastTime::At(b.time),
-        Block::Table(_) => LastTime::Never,
+    match number::read_u8(volume, offset) {
+        1 => LastTime::At(number::read_u64(volume, offset + 9)),
+        8 => LastTime::Never,
+        _ => LastTime::At(number::read_u64(volume, offset + 1)),
     }
 }
 
@@ -88,6 +87,19 @@ fn follow_fault(mark: Bookmark, time: LastTime) -> u64
     0
 }
 
+// The first fault of the block at the bookmark, or 0: its own, and then that of what it follows.
+pub(crate) fn read_fault(tables: &[u32], volume: &[u8], mark: Bookmark) -> u64
+    requires { ⌜ Lent (now tables) ⌝ }
+    ensures { λ r. ⌜ r ≡ readFault (now (volume .entry)) mark ⌝ }
+{
+    let offset = mark.offset;
+    let fault = block::block_fault(tables, volume, offset, mark.due);
+    if fault != 0 {
+        return fault;
+    }
+    follow_fault(mark, time_at(volume, offset))
+}
+
 // The bookmark after the block at `mark`, which ends at `end`: the one place where a bookmark is made from another.
 pub(crate) fn mark_after(mark: Bookmark, end: usize, time: LastTime) -> Bookmark
     requires { ⌜ mark .number < top ⌝ }
@@ -111,6 +123,16 @@ pub(crate) fn mark_after(mark: Bookmark, end: usize, time: LastTime) -> Bookmark
     }
 }
 
+// The bookmark after the block at `mark`, which has no fault. A walk that needs no block calls this and decodes none.
+pub(crate) fn next_mark(volume: &[u8], mark: Bookmark) -> Bookmark
+    requires { ⌜ readFault (now volume) mark ≡ 0 ⌝ }
+    ensures { λ r. ⌜ r ≡ nextMark (now (volume .entry)) mark ⌝ }
+{
+    let offset = mark.offset;
+    let end = block::end_at(volume, offset);
+    mark_after(mark, end, time_at(volume, offset))
+}
+
 impl Bookmark {
     // Reads the block at the bookmark: the block with its number and the bookmark after it, "end", or the refusal.
     pub fn read(self, volume: &[u8]) -> ReadAnswer
@@ -125,23 +147,16 @@ impl Bookmark {
         ensures { λ r. ⌜ r ≡ readAnswer (now (volume .entry)) self ⌝ }
     {
         let offset = self.offset;
-        let due = self.due;
         let number = self.number;
         if is_end(volume, self) {
             return ReadAnswer::End;
         }
-        let fault = block::block_fault(tables, volume, offset, due);
+        let fault = read_fault(tables, volume, self);
         if fault != 0 {
             return ReadAnswer::Refused(refusal_at(volume, offset, fault));
         }
-        let decoded = block::decode(volume, offset);
-        let found = decoded.block;
-        let time = time_of(found);
-        let follow = follow_fault(self, time);
-        if follow != 0 {
-            return ReadAnswer::Refused(refuse(follow));
-        }
-        let next = mark_after(self, decoded.end, time);
+        let found = block::decode(volume, offset);
+        let next = next_mark(volume, self);
         ReadAnswer::Found(Found {
             block: found,
             number,

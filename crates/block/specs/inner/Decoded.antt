@@ -1,4 +1,4 @@
--- Inner page: the block that stands at an offset, computed: its fields, the places of its variable parts, and where it ends.
+-- Inner page: the block that stands at an offset, computed: its fields and the places of its variable parts.
 -- Joined to ReadClaim of claims/AnyBookmark by read-at-any-bookmark.
 -- Joined to ImageAt of claims/BadText by only-shown.
 -- Joined to timeOf of format/Readings by same-time.
@@ -6,10 +6,9 @@ use Prim.Native.Nat.{ℕ, _+_}
 use mathlib.Core.Option.{Option, none, some}
 use mathlib.Core.List.{List}
 use Rattle.format.specs.Blocks.{Kind, inodeBlock, linkBlock, unlinkBlock, xattrBlock, removedXattrBlock, dataBlock, renameBlock, linkTable}
-use Rattle.block.specs.Fields.{kindAt, fixedLength, fieldAt, bodyLength, bodyEnd, firstPart, secondPart}
+use Rattle.block.specs.Fields.{kindAt, fixedLength, fieldAt, bodyLength, firstPart, secondPart}
 use Rattle.block.specs.declared.LinkBlock.{LinkBlock}
 use Rattle.block.specs.declared.Block.{Block}
-use Rattle.block.specs.declared.Decoded.{Decoded}
 use Rattle.block.specs.declared.Block.the-variants.{Inode, Link, Unlink, Xattr, RemovedXattr, Data, Rename, Table}
 
 -- what a link or an unlink block holds
@@ -80,13 +79,6 @@ blockOf linkTable volume offset =
 -- the block at an offset
 abbrev pub blockAt : (volume : List ℕ) (offset : ℕ) → Block
 blockAt volume offset = blockOf (kindAt volume offset) volume offset
-
--- the block of a kind at an offset, and where the next block begins: after the CRC
-abbrev pub decodedOf : Kind → (volume : List ℕ) (offset : ℕ) → Decoded
-decodedOf kind volume offset = record { block = blockOf kind volume offset; end = bodyEnd kind volume offset + 4 }
-
-abbrev pub decodedAt : (volume : List ℕ) (offset : ℕ) → Decoded
-decodedAt volume offset = decodedOf (kindAt volume offset) volume offset
 
 -- the time of a block; a table has none
 abbrev pub timeOfBlock : Block → Option ℕ

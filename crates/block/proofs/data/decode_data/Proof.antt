@@ -1,7 +1,5 @@
 -- Each field is what its reading gives, and the payload begins after the fixed fields.
-use native.Mathlib.Omega.{arith}
 use borrow.Author.Needs.{needs}
-use Rattle.block.specs.Fields.{bodyLength}
 use Rattle.block.specs.inner.Decoded.{blockOf}
 use Rattle.block.proofs.data.decode_data.Statement.{statement}
 use Rattle.block.proofs.data.decode_data.Tie as tie
@@ -21,19 +19,8 @@ read-u64-requires-2 c κs = search needs
 add-t7 : tie.Need-add-t7
 add-t7 c = search needs
 
-add-t6 : tie.Need-add-t6
-add-t6 c = search needs
-
-add-t7-2 : tie.Need-add-t7-2
-unfolding bodyLength
-add-t7-2 c = omega arith
-
-add-t10 : tie.Need-add-t10
-unfolding bodyLength
-add-t10 c = omega arith
-
 returns : tie.Need-returns
-unfolding blockOf bodyLength
+unfolding blockOf
 returns c = rw (c .before .read-u64 .ensures, c .read-u642 .ensures)
 
 pub decode-data-spec : {M : Type 1} → statement M
@@ -45,7 +32,4 @@ decode-data-spec =
     add-read-u64-2
     read-u64-requires-2
     add-t7
-    add-t6
-    add-t7-2
-    add-t10
     returns)

@@ -1,7 +1,5 @@
 -- Each field is what its reading gives, and the n bytes begin after the fixed fields.
-use native.Mathlib.Omega.{arith}
 use borrow.Author.Needs.{needs}
-use Rattle.block.specs.Fields.{bodyLength}
 use Rattle.block.specs.inner.Decoded.{blockOf}
 use Rattle.block.proofs.inode.decode_inode.Statement.{statement}
 use Rattle.block.proofs.inode.decode_inode.Tie as tie
@@ -75,19 +73,8 @@ read-u64-requires-8 c κs = search needs
 add-t25 : tie.Need-add-t25
 add-t25 c = search needs
 
-add-t6 : tie.Need-add-t6
-add-t6 c = search needs
-
-add-t8 : tie.Need-add-t8
-unfolding bodyLength
-add-t8 c = omega arith
-
-add-t25-2 : tie.Need-add-t25-2
-unfolding bodyLength
-add-t25-2 c = omega arith
-
 returns : tie.Need-returns
-unfolding blockOf bodyLength
+unfolding blockOf
 returns c =
     rw (
       c .before .before .before .before .before .before .before .before .before .before .read-u64 .ensures,
@@ -130,7 +117,4 @@ decode-inode-spec =
     add-read-u64-8
     read-u64-requires-8
     add-t25
-    add-t6
-    add-t8
-    add-t25-2
     returns)

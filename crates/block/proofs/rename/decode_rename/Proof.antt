@@ -1,6 +1,5 @@
 -- Each field is what its reading gives; the old path begins after the fixed fields and the new one after it.
 use borrow.Author.Needs.{needs}
-use Rattle.block.specs.Fields.{bodyLength}
 use Rattle.block.specs.inner.Decoded.{blockOf}
 use Rattle.block.proofs.rename.decode_rename.Statement.{statement}
 use Rattle.block.proofs.rename.decode_rename.Tie as tie
@@ -38,20 +37,8 @@ add-t11 c = search needs
 add-t12 : tie.Need-add-t12
 add-t12 c = search needs
 
-add-t7 : tie.Need-add-t7
-add-t7 c = search needs
-
-add-t9-2 : tie.Need-add-t9-2
-add-t9-2 c = search needs
-
-add-t12-2 : tie.Need-add-t12-2
-add-t12-2 c = search needs
-
-add-t11-2 : tie.Need-add-t11-2
-add-t11-2 c = search needs
-
 returns : tie.Need-returns
-unfolding blockOf bodyLength
+unfolding blockOf
 returns c = rw (c .before .before .read-u16 .ensures, c .before .read-u162 .ensures, c .read-u64 .ensures)
 
 pub decode-rename-spec : {M : Type 1} → statement M
@@ -69,8 +56,4 @@ decode-rename-spec =
     add-t9
     add-t11
     add-t12
-    add-t7
-    add-t9-2
-    add-t12-2
-    add-t11-2
     returns)

@@ -18,14 +18,6 @@ read-u64-requires c κs = search needs
 len-of-links-requires : tie.Need-len-of-links-requires
 len-of-links-requires c κs = search needs
 
-add-t7 : tie.Need-add-t7
-unfolding bodyLength
-add-t7 c = omega (arith, rw (c .before .read-u64 .ensures) at (c .len-of-links .ensures))
-
-add-t10 : tie.Need-add-t10
-unfolding bodyLength
-add-t10 c = omega (arith, rw (c .before .read-u64 .ensures) at (c .len-of-links .ensures))
-
 returns : tie.Need-returns
 unfolding blockOf bodyLength
 returns c = rw (c .len-of-links .ensures, c .before .read-u64 .ensures)
@@ -33,4 +25,4 @@ returns c = rw (c .len-of-links .ensures, c .before .read-u64 .ensures)
 pub decode-table-spec : {M : Type 1} → statement M
 decode-table-spec =
     tie.close
-    (tie.spec add-from add-read-u64 read-u64-requires len-of-links-requires add-t7 add-t10 returns)
+    (tie.spec add-from add-read-u64 read-u64-requires len-of-links-requires returns)

@@ -1,6 +1,5 @@
 -- Each field is what its reading gives, and the name begins after the fixed fields.
 use borrow.Author.Needs.{needs}
-use Rattle.block.specs.Fields.{bodyLength}
 use Rattle.block.specs.inner.Decoded.{blockOf}
 use Rattle.block.proofs.xattr.decode_removed_xattr.Statement.{statement}
 use Rattle.block.proofs.xattr.decode_removed_xattr.Tie as tie
@@ -29,17 +28,8 @@ read-u64-requires-2 c κs = search needs
 add-t10 : tie.Need-add-t10
 add-t10 c = search needs
 
-add-t6 : tie.Need-add-t6
-add-t6 c = search needs
-
-add-t9 : tie.Need-add-t9
-add-t9 c = search needs
-
-add-t10-2 : tie.Need-add-t10-2
-add-t10-2 c = search needs
-
 returns : tie.Need-returns
-unfolding blockOf bodyLength
+unfolding blockOf
 returns c = rw (c .before .before .read-u8 .ensures, c .before .read-u64 .ensures, c .read-u642 .ensures)
 
 pub decode-removed-xattr-spec : {M : Type 1} → statement M
@@ -54,7 +44,4 @@ decode-removed-xattr-spec =
     add-read-u64-2
     read-u64-requires-2
     add-t10
-    add-t6
-    add-t9
-    add-t10-2
     returns)

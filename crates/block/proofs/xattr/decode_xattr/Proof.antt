@@ -1,6 +1,5 @@
 -- Each field is what its reading gives; the name begins after the fixed fields and the value after the name.
 use borrow.Author.Needs.{needs}
-use Rattle.block.specs.Fields.{bodyLength}
 use Rattle.block.specs.inner.Decoded.{blockOf}
 use Rattle.block.proofs.xattr.decode_xattr.Statement.{statement}
 use Rattle.block.proofs.xattr.decode_xattr.Tie as tie
@@ -44,20 +43,8 @@ add-t14 c = search needs
 add-t15 : tie.Need-add-t15
 add-t15 c = search needs
 
-add-t7 : tie.Need-add-t7
-add-t7 c = search needs
-
-add-t11 : tie.Need-add-t11
-add-t11 c = search needs
-
-add-t15-2 : tie.Need-add-t15-2
-add-t15-2 c = search needs
-
-add-t14-2 : tie.Need-add-t14-2
-add-t14-2 c = search needs
-
 returns : tie.Need-returns
-unfolding blockOf bodyLength
+unfolding blockOf
 returns c =
     rw (
       c .before .before .before .read-u8 .ensures,
@@ -83,8 +70,4 @@ decode-xattr-spec =
     add-t12
     add-t14
     add-t15
-    add-t7
-    add-t11
-    add-t15-2
-    add-t14-2
     returns)
