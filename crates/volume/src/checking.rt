@@ -2,42 +2,40 @@
 use crate::Accepted;
 use crate::Bookmark;
 use crate::HeaderAnswer;
-use crate::ReadAnswer;
 use crate::Rejected;
 use crate::Verdict;
 use crate::heading::read_header_by;
+use crate::reading::is_end;
+use crate::reading::next_mark;
+use crate::reading::read_fault;
 use block::lending::FILL_FROM;
 use block::lending::NO_TABLES;
+use texts::refusal_at;
 ghost use mathlib.Core.Path.{_≡_};
 ghost use Rattle.crc32.specs.inner.Tables.{Lent};
 ghost use Rattle.volume.specs.inner.Check.{checkFrom, checkAnswer};
 
-// The check from a bookmark on.
+// The check from a bookmark on. It needs no block, only where the next one begins, so it decodes none.
 fn check_from(tables: &[u32], volume: &[u8], sequence: u64, first: Bookmark) -> Verdict
     requires { ⌜ Lent (now tables) ⌝ }
     ensures { λ r. ⌜ r ≡ checkFrom (now (volume .entry)) sequence first ⌝ }
 {
     let mut mark = first;
-    loop {
-        match mark.read_by(tables, volume) {
-            ReadAnswer::End => {
-                return Verdict::Accepted(Accepted {
-                    sequence,
-                    end: mark,
-                });
-            }
-            ReadAnswer::Refused(refusal) => {
-                return Verdict::Refused(Rejected {
-                    refusal,
-                    offset: mark.offset,
-                    blocks: mark.number,
-                });
-            }
-            ReadAnswer::Found(found) => {
-                mark = found.next;
-            }
+    while !is_end(volume, mark) {
+        let fault = read_fault(tables, volume, mark);
+        if fault != 0 {
+            return Verdict::Refused(Rejected {
+                refusal: refusal_at(volume, mark.offset, fault),
+                offset: mark.offset,
+                blocks: mark.number,
+            });
         }
+        mark = next_mark(volume, mark);
     }
+    Verdict::Accepted(Accepted {
+        sequence,
+        end: mark,
+    })
 }
 
 // The check of a whole volume with lent tables.

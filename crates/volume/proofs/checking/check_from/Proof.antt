@@ -1,14 +1,15 @@
 -- What is left to check is the check from the bookmark reached. Each block takes at least a byte.
 use Prim.Native.Nat.{_-_}
 use native.Mathlib.Omega.{arith}
-use mathlib.Core.Path.{_≡_, refl, sym, _∙_}
+use mathlib.Core.Path.{_≡_, refl, sym, ap, _∙_}
 use lib.ListN.{length}
+use borrow.Author.Tests.{not-true, not-false}
 use borrow.Author.Needs.{needs}
-use Rattle.volume.specs.Reading.{readAnswer}
-use Rattle.volume.specs.declared.ReadAnswer.the-variants as ReadAnswer
+use Rattle.volume.specs.Reading.{readFault}
+use Rattle.volume.specs.declared.Bookmark.{Bookmark}
 use Rattle.volume.specs.inner.Walk.{onRead}
 use Rattle.volume.specs.inner.Check.{checkWay, checkFrom}
-use Rattle.volume.proofs.Steps.{read-further}
+use Rattle.volume.proofs.Steps.{end-read, refusal-read, found-read, sound-further}
 use Rattle.volume.proofs.Walk.{walk-step}
 use Rattle.volume.proofs.checking.check_from.Statement.{statement}
 use Rattle.volume.proofs.checking.check_from.Tie as tie
@@ -22,43 +23,51 @@ abbrev μ-loop : tie.MeasureT-loop
 loop-holds : tie.Need-loop-holds Inv-loop μ-loop
 loop-holds c = refl
 
-read-by-requires : tie.Need-read-by-requires Inv-loop μ-loop
-read-by-requires c κs = search needs
+is-end-requires : tie.Need-is-end-requires Inv-loop μ-loop
+is-end-requires c κs = search needs
 
-enum-told : tie.Need-enum-told Inv-loop μ-loop
-enum-told c = search needs
+read-fault-requires : tie.Need-read-fault-requires Inv-loop μ-loop
+read-fault-requires c κs = search needs
+
+refusal-at-requires : tie.Need-refusal-at-requires Inv-loop μ-loop
+refusal-at-requires c κs = search needs
 
 returns : tie.Need-returns Inv-loop μ-loop
 unfolding onRead
 returns c =
-    let r = c .before .before in
-    let l = r .before in
-    sym (l .loop .inv ∙ walk-step _ (checkWay _) _ (sym (r .read-by .ensures) ∙ c .enum-told .given .1))
+    let f = c .before .before in
+    let i = f .before .before in
+    let l = i .before in
+    sym (l .loop .inv ∙ walk-step _ (checkWay _) _
+    (sym (refusal-read _ _ _ (sym (i .is-end .ensures) ∙ not-true _ (f .before .if1 .taken)) (sym (f .read-fault .ensures)) (c .before .if2 .taken) (c .refusal-at .ensures))))
 
-enum-known-refusal : tie.Need-enum-known-refusal Inv-loop μ-loop
-enum-known-refusal c = search needs
+next-mark-requires : tie.Need-next-mark-requires Inv-loop μ-loop
+next-mark-requires c κs = search needs
+
+-- the block has no fault
+sound : (c : tie.Else2 Inv-loop μ-loop) → let l = c .before .before .before .before in
+    readFault (l .before .before .before .args .volume .now) (l .loop .mark) ≡ 0
+sound c = sym (c .before .read-fault .ensures) ∙ c .if2 .left
+
+loop-less : tie.Need-loop-less Inv-loop μ-loop
+loop-less c = omega (arith, ap (λ (m : Bookmark). m .offset) (c .next-mark .ensures), sound-further _ _ (sound (c .before)))
+
+loop-again : tie.Need-loop-again Inv-loop μ-loop
+unfolding onRead
+loop-again c =
+    let f = c .before .before in
+    let i = f .before .before in
+    let l = i .before in
+    let a = l .before .before .before .args in
+    l .loop .inv
+    ∙ walk-step _ (checkWay _) _ (sym (found-read _ _ (sym (i .is-end .ensures) ∙ not-true _ (f .before .if1 .taken)) (sound (c .before))))
+    ∙ ap (λ (m : Bookmark). checkFrom (a .volume .now) (a .sequence) m) (sym (c .next-mark .ensures))
 
 returns-2 : tie.Need-returns-2 Inv-loop μ-loop
 unfolding onRead
 returns-2 c =
-    let r = c .before .before .before in
-    let l = r .before in
-    sym (l .loop .inv ∙ walk-step _ (checkWay _) _ (sym (r .read-by .ensures) ∙ c .before .refusal .given .1))
-
-enum-known-found : tie.Need-enum-known-found Inv-loop μ-loop
-enum-known-found c = search needs
-
--- the reading found a block
-found : (c : tie.After-mark Inv-loop μ-loop) → let r = c .before .before .before .before in
-    readAnswer (r .before .before .before .before .args .volume .now) (r .before .loop .mark) ≡ ReadAnswer.Found (c .before .before .found .given .0 .0)
-found c = sym (c .before .before .before .before .read-by .ensures) ∙ c .before .before .found .given .1
-
-loop-less : tie.Need-loop-less Inv-loop μ-loop
-loop-less c = omega (arith, read-further _ _ _ (found c))
-
-loop-again : tie.Need-loop-again Inv-loop μ-loop
-unfolding onRead
-loop-again c = c .before .before .before .before .before .loop .inv ∙ walk-step _ (checkWay _) _ (found c)
+    let l = c .before .before in
+    sym (l .loop .inv ∙ walk-step _ (checkWay _) _ (sym (end-read _ _ (sym (c .before .is-end .ensures) ∙ not-false _ (c .if1 .left)))))
 
 pub check-from-spec : {M : Type 1} → statement M
 check-from-spec =
@@ -67,11 +76,11 @@ check-from-spec =
     Inv-loop
     μ-loop
     loop-holds
-    read-by-requires
-    enum-told
+    is-end-requires
+    read-fault-requires
+    refusal-at-requires
     returns
-    enum-known-refusal
-    returns-2
-    enum-known-found
+    next-mark-requires
     loop-less
-    loop-again)
+    loop-again
+    returns-2)
