@@ -1,9 +1,12 @@
 -- The checksum fits four bytes. The register of a longer list continues from that of its beginning.
 -- The subtraction in the checksum's definition is a complement.
-use Prim.Native.Nat.{ℕ, _+_, _-_, _*_, _/_, _%_, _^_, _<_}
-use mathlib.Core.Path.{_≡_, ap}
+use Prim.Native.Nat.{ℕ, _+_, _-_, _*_, _/_, _%_, _^_, _≤_, _<_}
+use mathlib.Core.Path.{_≡_, refl, ap, ap₂, _∙_}
 use mathlib.Core.List.{List, [], _∷_, _++_, foldl, foldl-append}
 use native.Mathlib.Omega.{arith}
+use native.Mathlib.Nat.{not-suc-le-zero, suc-ne-zero}
+use lib.ListN.{length, getD, take, drop}
+use lib.Seq.{take-all}
 use lib.Bits.{xor-lt}
 use Rattle.crc32.specs.Crc.{bits, reversed, polynomial, bitStep, byteStep, register, crc}
 
@@ -14,6 +17,21 @@ crc-lt bytes = omega arith
 pub register-append : (earlier later : List ℕ) → register (earlier ++ later) ≡ foldl byteStep (register earlier) later
 unfolding register
 register-append earlier later = foldl-append byteStep _ earlier later
+
+pub register-none : (bytes : List ℕ) → length bytes ≡ 0 → 0xFFFFFFFF ≡ register bytes
+unfolding register
+register-none [] e = refl
+register-none (byte ∷ bytes) e = absurd (suc-ne-zero (length bytes) e)
+
+-- The register goes on from the first byte.
+pub register-first :
+    (bytes : List ℕ) (first last : ℕ) → 0 < length bytes → first ≡ byteStep 0xFFFFFFFF (getD bytes 0 0)
+    → last ≡ foldl byteStep first (take (length bytes - 1) (drop 1 bytes)) → last ≡ register bytes
+unfolding register
+register-first [] first last some e f = absurd (not-suc-le-zero some)
+register-first (byte ∷ bytes) first last some e f =
+    let rest : length bytes ≤ length (byte ∷ bytes) - 1 = omega arith in
+    f ∙ ap₂ (λ (r : ℕ) (s : List ℕ). foldl byteStep r s) e (take-all (length (byte ∷ bytes) - 1) bytes rest)
 
 -- The complement of the register is the checksum.
 pub complement : (bytes : List ℕ) (last : ℕ) → last ≡ register bytes → 0xFFFFFFFF - last ≡ crc bytes
