@@ -1,0 +1,5 @@
+pub mod Constants
+pub mod DigestSize
+pub mod Parts
+pub mod Vectors
+pub mod Zeros
