@@ -1,0 +1,4 @@
+pub mod Elements
+pub mod Extending
+pub mod InTurns
+pub mod Loading

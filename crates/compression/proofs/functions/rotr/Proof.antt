@@ -1,0 +1,22 @@
+-- The definition, as it stands: a shift to the left drops what leaves the word.
+use mathlib.Core.Path.{refl}
+use borrow.Author.Needs.{needs}
+use Rattle.fips180.specs.Functions.{ROTR}
+use Rattle.compression.proofs.functions.rotr.Statement.{statement}
+use Rattle.compression.proofs.functions.rotr.Tie as tie
+
+shr-result : tie.Need-shr-result
+shr-result c = search needs
+
+sub-result : tie.Need-sub-result
+sub-result c = search needs
+
+shl-result : tie.Need-shl-result
+shl-result c = search needs
+
+returns : tie.Need-returns
+unfolding ROTR
+returns c = refl
+
+pub rotr-spec : {M : Type 1} → statement M
+rotr-spec = tie.close (tie.spec shr-result sub-result shl-result returns)
