@@ -1,0 +1,4 @@
+pub mod Bytewise
+pub mod Cuts
+pub mod Endian
+pub mod LastBlocks
