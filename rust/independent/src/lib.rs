@@ -24,6 +24,7 @@ pub mod lookup;
 pub mod refusal;
 pub mod runs;
 pub mod set;
+pub mod sha256;
 pub mod utf8;
 pub mod write;
 
@@ -38,6 +39,7 @@ pub use lookup::{lookup, lookup_with, Place};
 pub use refusal::Refusal;
 pub use runs::{run_count, runs, runs_with};
 pub use set::{set_faults, Inode, LastLink, Set, SetFault};
+pub use sha256::sha256;
 pub use write::{
     append_data, append_inode, append_link, append_removed_xattr, append_rename, append_table,
     append_unlink, append_xattr, write_header,

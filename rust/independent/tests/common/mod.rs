@@ -1,6 +1,7 @@
 //! Bytes of headers and blocks, put together by hand.
 #![allow(dead_code)]
 
+pub mod textbook;
 pub mod texts;
 
 use std::fs;
@@ -34,15 +35,19 @@ pub fn spoiled(mut image: Vec<u8>) -> Vec<u8> {
 }
 
 pub fn header(sequence: u64) -> Vec<u8> {
+    header_with([7; 16], sequence, [if sequence == 0 { 0 } else { 9 }; 32])
+}
+
+pub fn header_with(id: [u8; 16], sequence: u64, previous: [u8; 32]) -> Vec<u8> {
     let mut bytes = vec![
         0xD3, 0x48, 0x44, 0x52, 0x46, 0x53, 0x0D, 0x0A, 0x1A, 0x0A, 0x00, 0x48, 0x44, 0x52, 0x46,
         0x53, 0x00,
     ];
     bytes.push(0);
-    bytes.extend([7; 16]);
+    bytes.extend(id);
     bytes.extend([0, 0]);
     bytes.extend(sequence.to_le_bytes());
-    bytes.extend([if sequence == 0 { 0 } else { 9 }; 32]);
+    bytes.extend(previous);
     sealed(bytes)
 }
 
@@ -214,6 +219,21 @@ pub fn sample(name: &str) -> Vec<u8> {
     let folder = PathBuf::from(env!("CARGO_MANIFEST_DIR")).join("../../crates/samples/data");
     let path = folder.join(name);
     fs::read(&path).unwrap_or_else(|error| panic!("{}: {error}", path.display()))
+}
+
+/// Bytes that look like nothing in particular, the same for the same seed.
+pub fn noise(seed: u64, length: usize) -> Vec<u8> {
+    let mut state = seed;
+    let byte = |_| {
+        state = state.wrapping_mul(6364136223846793005).wrapping_add(99);
+        (state >> 56) as u8
+    };
+    (0..length).map(byte).collect()
+}
+
+/// Bytes in hexadecimal.
+pub fn hex(bytes: &[u8]) -> String {
+    bytes.iter().map(|byte| format!("{byte:02x}")).collect()
 }
 
 /// A bookmark with no block before it.
