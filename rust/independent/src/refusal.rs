@@ -54,6 +54,8 @@ pub const NOT_THERE: Refusal = Refusal::of(16);
 pub const NO_ROOM: Refusal = Refusal::of(17);
 /// Never given: a kept byte needs a block of at least one byte.
 pub const STRAY: Refusal = Refusal::of(18);
+/// The second of two volumes does not follow on the first.
+pub const NOT_NEXT: Refusal = Refusal::of(23);
 
 /// The largest number. Who counts answers by number has one count more, for 0.
-pub const LARGEST: usize = STRAY.number as usize;
+pub const LARGEST: usize = NOT_NEXT.number as usize;

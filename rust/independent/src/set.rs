@@ -80,7 +80,7 @@ fn pair_faults(one: &(usize, Header<'_>), two: &(usize, Header<'_>)) -> Vec<SetF
 }
 
 /// The header of an accepted volume.
-fn header(volume: &[u8]) -> Header<'_> {
+pub(crate) fn header(volume: &[u8]) -> Header<'_> {
     read_header(volume).expect("an accepted volume has a header")
 }
 
