@@ -9,6 +9,7 @@
 pub mod archive;
 pub mod bench;
 pub mod damage;
+pub mod digest;
 pub mod draft;
 pub mod edge;
 pub mod extents;
