@@ -16,6 +16,7 @@ pub mod extents;
 pub mod fault;
 pub mod image;
 pub mod number;
+pub mod pair;
 mod question;
 pub mod rng;
 pub mod text;
