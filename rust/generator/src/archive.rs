@@ -7,8 +7,9 @@ mod log;
 mod spans;
 mod spoil;
 
-use crate::image;
+use crate::digest::Sha256;
 use crate::rng::Rng;
+use crate::{image, pair};
 use log::{Log, Piece};
 
 const TOP: u64 = u64::MAX;
@@ -61,7 +62,19 @@ pub struct Archive {
 }
 
 /// The archive of a seed: 1 to 12 volumes, mostly of a few KB. A double makes it 13.
+/// Previous hashes are anything.
 pub fn archive(seed: u64) -> Archive {
+    made(seed, None)
+}
+
+/// The archive of the same seed, with true hashes: a volume has the digest of
+/// the one whose number is one below, if that is made too. What is left out
+/// or changed afterwards, as the kind says, breaks the chain there.
+pub fn chained(seed: u64, sha256: Sha256) -> Archive {
+    made(seed, Some(sha256))
+}
+
+fn made(seed: u64, sha256: Option<Sha256>) -> Archive {
     let mut rng = Rng::new(seed);
     let kind = match rng.below(20) {
         0..=9 => Kind::Whole,
@@ -72,13 +85,16 @@ pub fn archive(seed: u64) -> Archive {
         17 | 18 => Kind::Double,
         _ => Kind::Damaged,
     };
-    of_kind(seed, rng, kind)
+    of_kind(seed, rng, kind, sha256)
 }
 
-fn of_kind(seed: u64, mut rng: Rng, kind: Kind) -> Archive {
+fn of_kind(seed: u64, mut rng: Rng, kind: Kind, sha256: Option<Sha256>) -> Archive {
     let sequences = sequences(&mut rng, kind);
     let mut log = Log::new(&mut rng);
     let mut volumes = volumes(&mut rng, &mut log, &sequences);
+    if let Some(sha256) = sha256 {
+        chain(&mut volumes, &sequences, sha256);
+    }
     match kind {
         Kind::Whole | Kind::Far => {}
         Kind::Gaps => spoil::leave_out(&mut rng, &mut volumes),
@@ -148,6 +164,17 @@ fn volumes(rng: &mut Rng, log: &mut Log, sequences: &[u64]) -> Vec<Vec<u8>> {
             plan.iter().flat_map(image).collect()
         })
         .collect()
+}
+
+/// Gives each volume the digest of the one before it, from the lowest number
+/// on, since a hash is part of what is digested next.
+fn chain(volumes: &mut [Vec<u8>], sequences: &[u64], sha256: Sha256) {
+    for place in 1..volumes.len() {
+        if sequences[place - 1].checked_add(1) == Some(sequences[place]) {
+            let (before, after) = volumes.split_at_mut(place);
+            pair::link(&before[place - 1], &mut after[0], sha256);
+        }
+    }
 }
 
 /// The archive as text, for reports of failures; the seed gives the bytes.

@@ -5,9 +5,10 @@ mod common;
 use std::collections::BTreeMap;
 
 use common::Found;
-use generator::archive::{archive, describe, Archive, Kind};
+use generator::archive::{archive, chained, describe, Archive, Kind};
+use generator::image::PREVIOUS;
 use independent::extent::{extents, REPEATED};
-use independent::{lookup, runs, set_faults, Extent, File, Inode, Place};
+use independent::{lookup, pair, runs, set_faults, sha256, Extent, File, Inode, Pair, Place};
 use independent::{Set, SetFault};
 
 const SEEDS: u64 = 3_000;
@@ -66,6 +67,62 @@ fn a_seed_gives_one_archive() {
         assert_eq!(one.numbers, two.numbers);
     }
     assert_ne!(archive(1).volumes, archive(2).volumes);
+}
+
+fn digest(bytes: &[u8]) -> [u8; 32] {
+    sha256(bytes).expect("at most 16 MiB")
+}
+
+/// Without the hash and the checksum of the header, which covers it.
+fn without_hash(volume: &[u8]) -> [&[u8]; 2] {
+    let mut parts = [volume, &[]];
+    if volume.len() >= 80 {
+        parts = [&volume[..PREVIOUS.start], &volume[80..]];
+    }
+    parts
+}
+
+/// Volumes whose numbers are neighbours follow on each other in chained
+/// archives, and nothing but the hashes is other than in those not chained.
+#[test]
+fn chained_archives_have_true_hashes() {
+    let (mut linked, mut broken) = (0, 0);
+    for seed in 0..SEEDS / 2 {
+        let (plain, archive) = (archive(seed), chained(seed, digest));
+        assert_eq!(
+            (plain.kind, &plain.numbers),
+            (archive.kind, &archive.numbers)
+        );
+        assert_eq!(plain.volumes.len(), archive.volumes.len());
+        for (one, two) in plain.volumes.iter().zip(&archive.volumes) {
+            assert_eq!(
+                without_hash(one),
+                without_hash(two),
+                "{}",
+                describe(&archive)
+            );
+        }
+        let faults = set_faults(&lent(&archive));
+        assert!(fits(archive.kind, &faults), "{}", describe(&archive));
+        let (Ok(set), Ok(plain)) = (Set::new(&lent(&archive)), Set::new(&lent(&plain))) else {
+            continue;
+        };
+        for &number in set.volumes().keys() {
+            let two = |set: &Set<'_>| {
+                let before = set.volumes().get(&number.checked_sub(1)?)?;
+                Some(pair(before, set.volumes()[&number]))
+            };
+            let Some(answer) = two(&set) else {
+                continue;
+            };
+            assert_eq!(answer, Pair::default(), "{}", describe(&archive));
+            linked += 1;
+            let refusal = two(&plain).map(|answer| answer.refusal);
+            broken += usize::from(refusal == Some(23));
+        }
+    }
+    println!("{linked} linked, {broken} of them not so if not chained");
+    assert!(linked > 3_000 && broken == linked);
 }
 
 impl Found {
