@@ -3,7 +3,9 @@
 
 use std::ops::Range;
 
+use crate::digest::Sha256;
 use crate::image::{self, Extent, Stat, COUNTED, LIMIT, REPEATED};
+use crate::pair;
 use crate::rng::Rng;
 use crate::texts::Fault;
 
@@ -301,6 +303,14 @@ pub fn archive_volume(sequence: u64) -> Vec<u8> {
     // The data follows from the time, so each volume has a time of its own.
     fill(&mut volume, 2 + sequence);
     volume
+}
+
+/// The first two volumes of [`archive`], the second with the hash that lets it follow on the first.
+pub fn neighbours(sha256: Sha256) -> [Vec<u8>; 2] {
+    let first = archive_volume(0);
+    let mut second = archive_volume(1);
+    pair::link(&first, &mut second, sha256);
+    [first, second]
 }
 
 /// An extent of the file in [`archive`].

@@ -2,9 +2,10 @@
 
 use generator::bench::{
     archive, archive_extent, archive_volume, copies, data_blocks, inodes, inputs, last_names,
-    lengths, Order, COPIED, COPIES, COPIES_OFFSET, SHORT,
+    lengths, neighbours, Order, COPIED, COPIES, COPIES_OFFSET, SHORT,
 };
-use independent::{check, lookup, read_header, run_count, Place, Refusal, Verdict, VOLUME_LIMIT};
+use independent::{check, lookup, pair, read_header, run_count, sha256};
+use independent::{Pair, Place, Refusal, Verdict, VOLUME_LIMIT};
 
 #[test]
 fn all_are_accepted_and_full() {
@@ -107,6 +108,13 @@ fn the_archive_is_a_set_of_full_volumes() {
         assert_eq!((header.sequence, header.id), (sequence, &[7; 16]));
         assert!(matches!(check(&volume), Verdict::Accepted { .. }));
     }
+}
+
+#[test]
+fn neighbours_are_full_and_follow_on_each_other() {
+    let [first, second] = neighbours(|bytes| sha256(bytes).expect("at most 16 MiB"));
+    assert_eq!([first.len(), second.len()], [VOLUME_LIMIT; 2]);
+    assert_eq!(pair(&first, &second), Pair::default());
 }
 
 #[test]
