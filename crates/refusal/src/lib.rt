@@ -46,6 +46,9 @@ pub const NOT_THERE: u64 = 16;
 pub const ROOM_TOO_SMALL: u64 = 17;
 // An extent keeps a byte of a block of size 0. No call gives it: such an extent keeps nothing.
 pub const STRAY: u64 = 18;
+// Of two volumes that are both accepted the second does not follow the first: another file system ID, a number that is not one above
+// the first volume's, or a previous hash that is not its digest.
+pub const DOES_NOT_FOLLOW: u64 = 23;
 
 // Why a call refuses: the number of the list of refusals. Where it is 10, `text` says which text of the block is the first that is
 // not UTF-8, counted from 0, and `start` where in that text the first ill-formed sequence starts; else both are 0.
