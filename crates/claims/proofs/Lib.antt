@@ -18,6 +18,7 @@ pub mod Demand2
 pub mod WalkOver
 pub mod Listed
 pub mod Fetching
+pub mod Chained
 pub mod Samples
 pub mod Bytes
 pub mod Tried
@@ -28,5 +29,6 @@ pub mod WrongNumbers
 pub mod WrongTexts
 pub mod WrongLookups
 pub mod WrongListing
+pub mod WrongPairs
 pub mod Wrong
 pub mod TableLinks

@@ -7,6 +7,7 @@ pub mod Fetching
 pub mod Demand3Reading
 pub mod Demand3
 pub mod Listed
+pub mod Chained
 pub mod TableLinks
 pub mod Samples
 pub mod Wrong

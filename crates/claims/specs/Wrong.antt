@@ -1,18 +1,20 @@
 -- Libraries that are wrong, each in one way, and that a claim is false of. The first are the empty programs that a claim has to shut
 -- out: they answer, but nothing comes of it. The next are right wherever a claim used to look, and wrong beside it. Two go by another
--- rule for times, three count blocks in another way, and the last four tell the wrong text or place.
+-- rule for times, three count blocks in another way, four tell the wrong text or place, and three go by another rule for pairs.
 --
 -- What a wrong library answers is what ours does, but for the calls named. Proved in proofs/Wrong.antt.
 use Prim.Native.Nat.{ℕ, suc, _+_, _-_}
-use mathlib.Core.Bool.{Bool, true, false, cond}
+use mathlib.Core.Bool.{Bool, true, false, cond, _&&_}
 use mathlib.Core.Option.{Option, none, some}
 use mathlib.Core.List.{List, [], _++_}
 use lib.Dec.{eqb}
 use lib.ListN.{length}
 use Rattle.number.specs.Number.{put}
+use Rattle.number.specs.inner.Same.{sameBytes}
 use Rattle.refusal.specs.Refusal.{refusalOf}
 use Rattle.refusal.specs.inner.FirstBad.{firstBad}
 use Rattle.refusal.specs.declared.Refusal.{Refusal}
+use Rattle.sha256.specs.Hash.{sha256}
 use Rattle.format.specs.Blocks as format
 use Rattle.format.specs.Headers.{Header}
 use Rattle.format.specs.Readings.{timeOf}
@@ -22,6 +24,7 @@ use Rattle.block.specs.inner.Decoded.{blockAt}
 use Rattle.block.specs.declared.Block.{Block}
 use Rattle.block.specs.declared.Block.the-variants as block
 use Rattle.texts.specs.Texts.{texts}
+use Rattle.volume.specs.Heading.{headerBytes, sequenceOf}
 use Rattle.volume.specs.declared.LastTime.{LastTime}
 use Rattle.volume.specs.declared.LastTime.the-variants.{Never, At}
 use Rattle.volume.specs.declared.Bookmark.{Bookmark}
@@ -32,6 +35,8 @@ use Rattle.volume.specs.declared.Verdict.{Verdict}
 use Rattle.volume.specs.declared.Verdict.the-variants as verdict
 use Rattle.volume.specs.declared.WriteAnswer.{WriteAnswer}
 use Rattle.volume.specs.declared.WriteAnswer.the-variants as write
+use Rattle.chain.specs.Pairing.{paired}
+use Rattle.chain.specs.declared.Pairing.{Pairing}
 use Rattle.lookup.specs.declared.PositionAnswer.{PositionAnswer}
 use Rattle.lookup.specs.declared.PositionAnswer.the-variants as place
 use Rattle.lookup.specs.declared.RunsAnswer.the-variants as runs
@@ -43,6 +48,7 @@ use Rattle.claims.specs.BadText.{BadTextClaim}
 use Rattle.claims.specs.Demand2.{Demand2}
 use Rattle.claims.specs.Demand3.{Demand3}
 use Rattle.claims.specs.Listed.{Listed}
+use Rattle.claims.specs.Chained.{PairClaim}
 
 -- ours, but for these calls
 abbrev pub answering :
@@ -278,6 +284,24 @@ besideAnyNumber request refusal =
 abbrev pub inSecondPart : format.Block → Refusal → Refusal
 inSecondPart request refusal = record { number = refusal .number; text = 1; start = 0 }
 
+-- Wrong about pairs: the volumes are refused as ours does, and whether the second follows goes by another test.
+abbrev pub pairing : (test : (first second : List ℕ) → Bool) → (first second : List ℕ) → Pairing
+pairing test first second = paired (ours .check first) (ours .check second) (test first second)
+
+-- one does not compare the file system IDs
+abbrev pub anyId : (first second : List ℕ) → Bool
+anyId first second = eqb (sequenceOf second) (suc (sequenceOf first)) && sameBytes (headerBytes "previous hash" second) (sha256 first)
+
+-- one takes any hash
+abbrev pub anyHash : (first second : List ℕ) → Bool
+anyHash first second =
+    sameBytes (headerBytes "file system ID" second) (headerBytes "file system ID" first)
+    && eqb (sequenceOf second) (suc (sequenceOf first))
+
+-- one refuses all pairs
+abbrev pub noPair : (first second : List ℕ) → Bool
+noPair first second = false
+
 -- No claim holds of them.
 pub record WrongAreShutOut : Type 0 where
   pub refuses-all : Demand3 refusesAll → ⊥
@@ -300,3 +324,6 @@ pub record WrongAreShutOut : Type 0 where
   pub last-text-told : BadTextClaim (telling inLastText) → ⊥
   pub text-told-beside-any-number : BadTextClaim (telling besideAnyNumber) → ⊥
   pub second-part-told : BadTextClaim (telling inSecondPart) → ⊥
+  pub any-id-follows : PairClaim ours (pairing anyId) → ⊥
+  pub any-hash-follows : PairClaim ours (pairing anyHash) → ⊥
+  pub no-volume-follows : PairClaim ours (pairing noPair) → ⊥
