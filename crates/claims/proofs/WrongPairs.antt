@@ -8,8 +8,8 @@ use lib.ListN.{length, replicate, getD, length-append}
 use borrow.Author.Tests.{eq-eqb}
 use Rattle.number.specs.Number.{Bytes, leBytes}
 use Rattle.number.proofs.Same.{same-refl}
-use Rattle.sha256.specs.Hash.{sha256}
-use Rattle.sha256.proofs.DigestSize.{digest-length, digest-bytes}
+use Rattle.fips180.specs.Hash.{sha256}
+use Rattle.fips180.proofs.DigestSize.{digest-length, digest-bytes}
 use Rattle.format.specs.Layout.{laid, sealed}
 use Rattle.format.specs.Blocks.{linkImage, linkList, image}
 use Rattle.format.specs.Headers.{Header, HeaderRules, noHash, headerImage}

@@ -8,7 +8,7 @@ use mathlib.Core.Logic.{_↔_}
 use mathlib.Core.List.{List}
 use lib.ListN.{length}
 use Rattle.number.specs.Number.{Bytes}
-use Rattle.sha256.specs.Hash.{sha256}
+use Rattle.fips180.specs.Hash.{sha256}
 use Rattle.format.specs.Readings.{Reading, ReadingOf}
 use Rattle.volume.specs.declared.Verdict.the-variants as Verdict
 use Rattle.chain.specs.declared.Pairing.{Pairing}

@@ -14,7 +14,7 @@ use Rattle.number.specs.inner.Same.{sameBytes}
 use Rattle.refusal.specs.Refusal.{refusalOf}
 use Rattle.refusal.specs.inner.FirstBad.{firstBad}
 use Rattle.refusal.specs.declared.Refusal.{Refusal}
-use Rattle.sha256.specs.Hash.{sha256}
+use Rattle.fips180.specs.Hash.{sha256}
 use Rattle.format.specs.Blocks as format
 use Rattle.format.specs.Headers.{Header}
 use Rattle.format.specs.Readings.{timeOf}
