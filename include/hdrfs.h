@@ -1,9 +1,10 @@
 /* Calls of the proved HDRFS library for programs in C, Rust and other languages.
  *
  * A slice is a pointer and a length; the pointer may be null where the length is 0. Every call takes any bytes and any
- * numbers, ends, and writes nothing but the list lent to hdrfs_runs and the buffer lent to a writing call. A refusal number
- * of 0 means that nothing is refused; docs/REFUSALS.md says what the others mean. Beside a refusal every other value is 0,
- * except the offset and the number of blocks that the check of a whole volume hands out, and the two numbers of a 10.
+ * numbers, ends, and writes nothing but the list lent to hdrfs_runs, the buffer lent to a writing call, and the state and the room
+ * for a digest lent to a SHA-256 call. A refusal number of 0 means that nothing is refused; docs/REFUSALS.md says what the others
+ * mean. Beside a refusal every other value is 0, except the offset and the number of blocks that the check of a whole volume hands
+ * out, which volume of a pair is refused by itself and the offset in it, and the two numbers of a 10.
  *
  * Refusal 10, a text that is not UTF-8, has `text` and `start` beside it, which are 0 beside every other number. `text` says which
  * text of the block is the first that is not UTF-8, counted from 0 in the order of the layout; `start` says where in that text,
@@ -16,8 +17,9 @@
  * was made up is taken as it is. At 2^64 - 1 one more block cannot be counted: the next reading or append is refused with 9. The
  * end of a volume is still answered there.
  *
- * What is lent for writing, the list of hdrfs_runs and the buffer of a writing call, must not overlap any other slice of the same
- * call. Nothing checks this: what a call answers is fixed only where it holds.
+ * What is lent for writing, the list of hdrfs_runs, the buffer of a writing call, and the state and the room for a digest of a
+ * SHA-256 call, must not overlap any other slice of the same call. Nothing checks this: what a call answers is fixed only where it
+ * holds.
  *
  * `lengths` has the lengths of the volumes, 8 bytes for each, lowest byte first; entry i is that of sequence number i.
  */
@@ -195,6 +197,35 @@ typedef struct {
 
 hdrfs_source hdrfs_fetch(const uint8_t *first, size_t first_len, const uint8_t *second, size_t second_len,
                          uint64_t number, uint64_t offset, uint64_t len);
+
+/* ---- SHA-256 (FIPS 180-4) of any bytes, up to 16,777,216, whether they are a sound volume or not. Each call answers a refusal
+ * number, 0 where it is done. `out` gets the digest, 32 bytes. Bytes that a call does not write keep their values, and so do all
+ * on refusal: 17 where fewer than 104 bytes are lent for the state, 1 where the bytes are too many, 17 where fewer than 32 are
+ * lent for the digest, in this order. */
+
+/* All bytes at once. */
+uint64_t hdrfs_sha256(const uint8_t *bytes, size_t bytes_len, uint8_t *out, size_t out_len);
+
+/* The same in parts, cut anywhere. The state has 104 bytes: eight words of 4 bytes and the number of bytes fed in 8, all lowest
+ * byte first, and then 64 held bytes, of which the first are in use, as many as the remainder of that number by 64. A state that
+ * was made up is taken as it is. Feeding is as if byte by byte, so that held bytes to whose places nothing is fed keep their
+ * values. A number above 16,777,216 is refused with 1, also where nothing is fed. Finishing leaves the state as it is. */
+uint64_t hdrfs_sha256_start(uint8_t *state, size_t state_len);
+uint64_t hdrfs_sha256_feed(uint8_t *state, size_t state_len, const uint8_t *part, size_t part_len);
+uint64_t hdrfs_sha256_finish(const uint8_t *state, size_t state_len, uint8_t *out, size_t out_len);
+
+/* ---- Whether the second of two volumes follows the first: both are accepted, they have the same file system ID, the second's
+ * sequence number is one above the first's, and its hash of the previous volume is the SHA-256 digest of the first. */
+
+typedef struct {
+    uint64_t refusal; /* the first volume's own, else the second's own, else 23; 0: the second follows the first */
+    uint64_t text;    /* of a 10, as in hdrfs_checked */
+    uint64_t start;
+    uint64_t which;   /* 1: the first volume is refused by itself, 2: the second; 0 beside 23 */
+    uint64_t offset;  /* where the header or block at fault begins in that volume, as in hdrfs_checked; 0 beside 23 */
+} hdrfs_paired;
+
+hdrfs_paired hdrfs_pair(const uint8_t *first, size_t first_len, const uint8_t *second, size_t second_len);
 
 /* ---- Writing: a header at the beginning of a buffer, and then block by block, each time with the bookmark last handed out.
  * `buf` must not overlap the other slices. Bytes that a call does not write keep their values, and so do all on refusal. */

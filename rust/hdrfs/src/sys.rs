@@ -5,11 +5,13 @@
 //! are safe for any bytes and any numbers.
 
 mod answers;
+mod chain;
 mod writing;
 
 pub use answers::{
-    Block, Checked, ExtentEntry, Heading, LinkEntry, Place, RunCount, Source, Written,
+    Block, Checked, ExtentEntry, Heading, LinkEntry, Paired, Place, RunCount, Source, Written,
 };
+pub use chain::{pair, sha256, sha256_feed, sha256_finish, sha256_start};
 pub use writing::{
     append_data, append_inode, append_link, append_removed_xattr, append_rename, append_table,
     append_unlink, append_xattr, write_header,
@@ -42,7 +44,7 @@ pub const PAST_END: u64 = 2;
 /// The declarations of the header file, in its order.
 mod raw {
     use super::{
-        Block, Checked, ExtentEntry, Heading, LinkEntry, Place, RunCount, Source, Written,
+        Block, Checked, ExtentEntry, Heading, LinkEntry, Paired, Place, RunCount, Source, Written,
     };
 
     type Bytes = *const u8;
@@ -145,6 +147,26 @@ mod raw {
             offset: u64,
             len: u64,
         ) -> Source;
+        pub fn hdrfs_sha256(bytes: Bytes, bytes_len: usize, out: *mut u8, out_len: usize) -> u64;
+        pub fn hdrfs_sha256_start(state: *mut u8, state_len: usize) -> u64;
+        pub fn hdrfs_sha256_feed(
+            state: *mut u8,
+            state_len: usize,
+            part: Bytes,
+            part_len: usize,
+        ) -> u64;
+        pub fn hdrfs_sha256_finish(
+            state: Bytes,
+            state_len: usize,
+            out: *mut u8,
+            out_len: usize,
+        ) -> u64;
+        pub fn hdrfs_pair(
+            first: Bytes,
+            first_len: usize,
+            second: Bytes,
+            second_len: usize,
+        ) -> Paired;
         pub fn hdrfs_write_header(
             buf: *mut u8,
             buf_len: usize,
@@ -274,7 +296,8 @@ mod raw {
 
 // What makes every call below sound: a slice lends its pointer and length for the time of the call,
 // the library reads within them for any bytes and any numbers, keeps no pointer, and writes only to
-// the list lent to `hdrfs_runs` and the buffer lent to a writing call, within their lengths.
+// the list lent to `hdrfs_runs`, the buffer lent to a writing call, and the state and the room for a
+// digest lent to a SHA-256 call, within their lengths.
 
 /// The functions on a whole volume that answer a struct or a number.
 macro_rules! on_a_volume {

@@ -235,6 +235,27 @@ pub struct Source {
     pub which: u64,
 }
 
+/// Whether the second of two volumes follows the first.
+///
+/// ```
+/// let nothing = hdrfs::sys::pair(&[], &[]);
+/// assert_eq!(nothing, hdrfs::sys::Paired { refusal: 2, which: 1, ..Default::default() });
+/// ```
+#[repr(C)]
+#[derive(Clone, Copy, Debug, Default, PartialEq, Eq)]
+pub struct Paired {
+    /// 0: the second follows the first; 23: both are accepted, and it does not.
+    pub refusal: u64,
+    /// Beside refusal 10, which text of the block is not UTF-8, counted from 0; else 0.
+    pub text: u64,
+    /// Beside refusal 10, where in that text the first ill-formed sequence begins; else 0.
+    pub start: u64,
+    /// 1: the first volume is refused by itself; 2: the second; 0: neither.
+    pub which: u64,
+    /// Where the header or block at fault begins in that volume; 0 where neither is refused.
+    pub offset: u64,
+}
+
 /// The bookmark after what was written.
 ///
 /// ```
