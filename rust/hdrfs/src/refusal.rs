@@ -80,7 +80,8 @@ macro_rules! numbers {
 }
 
 numbers! {
-    /// the volume has more than 16,777,216 bytes, or would have (to be listed: more than 65,536)
+    /// the volume has more than 16,777,216 bytes, or would have (to be listed: more than 65,536); of a
+    /// digest: more bytes than that are fed to it, or its state says so
     VOLUME_TOO_LONG = 1, "volume too long";
 
     /// the bytes end too early: in the header, in a block, before a link table that has to be
@@ -136,11 +137,17 @@ numbers! {
     /// names a volume without a length, or reaches beyond that length
     NOT_THERE = 16, "volume or range is not there";
 
-    /// the result is longer than the lent room
+    /// the result is longer than the lent room; of a digest: fewer than 104 bytes are lent for its
+    /// state, or fewer than 32 for the digest
     NO_ROOM = 17, "no room for the result";
 
     /// a kept byte in a block of size 0
     STRAY = 18, "byte kept of a block of size 0";
+
+    /// of two volumes that are both accepted, the second does not follow the first: their file system
+    /// IDs differ, its sequence number is not one above the first's, or its hash of the previous
+    /// volume is not the digest of the first
+    NOT_NEXT = 23, "does not follow the volume before it";
 }
 
 impl Refusal {
@@ -249,6 +256,17 @@ macro_rules! answers {
 }
 
 answers! { Block Checked Heading Place RunCount Source Written }
+
+/// The calls that take digests answer the number alone.
+impl Answer for u64 {
+    fn refusal(&self) -> u64 {
+        *self
+    }
+
+    fn bad_text(&self) -> (u64, u64) {
+        (0, 0)
+    }
+}
 
 impl fmt::Display for Refusal {
     fn fmt(&self, f: &mut fmt::Formatter<'_>) -> fmt::Result {
