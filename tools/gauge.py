@@ -6,6 +6,7 @@
 
 Run it from the top of the repository.
 """
+import hashlib
 import pathlib
 import sys
 
@@ -19,8 +20,10 @@ def lines(*rows):
     return b"".join(b"2026-01-01 %s\n" % row for row in rows)
 
 
-def begin(sequence):
-    return header(sequence, bytes([9 if sequence else 0] * 32), b"gauge at a river")
+def begin(sequence, previous=None):
+    """The header, with the hash of the volume before; the first has none before it, and zeros."""
+    digest = bytes(32) if previous is None else hashlib.sha256(previous).digest()
+    return header(sequence, digest, b"gauge at a river")
 
 
 def volumes():
@@ -30,10 +33,11 @@ def volumes():
     first = (begin(0) + data(1, early) + data(2, b"\n-;")
              + inode(3, REGULAR, extent(0, 97, 95), 95, GAUGE)
              + link(4, b"gauge.csv", child=GAUGE, parent=FOLDER) + xattr(5, b"unit", b"m", GAUGE))
-    second = (begin(1) + table([(GAUGE, FOLDER, b"gauge.csv")]) + data(6, later)
+    second = (begin(1, first) + table([(GAUGE, FOLDER, b"gauge.csv")]) + data(6, later)
               + rename(7, b"gauge.csv", b"river.csv") + inode(8, LINK, b"river.csv", 79, OLD_NAME)
               + link(9, b"gauge.csv", child=OLD_NAME, parent=FOLDER))
-    third = begin(2) + table([(GAUGE, FOLDER, b"river.csv"), (OLD_NAME, FOLDER, b"gauge.csv")]) + data(10, last)
+    third = (begin(2, second) + table([(GAUGE, FOLDER, b"river.csv"), (OLD_NAME, FOLDER, b"gauge.csv")])
+             + data(10, last))
     current = (extent(0, 97, 95) + extent(0, 213, 3, 82, 8, 1, 2, 161) + extent(1, 137, 22, 67, 5, 22, 22, 95)
                + extent(2, 164, 42, logical=204))
     return [first, second, third + inode(11, REGULAR, current, 246, GAUGE)], len(third)
