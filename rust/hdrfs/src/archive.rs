@@ -29,7 +29,7 @@ use cache::Cache;
 use index::Index;
 
 pub use chunks::{Chunk, Chunks};
-pub use each::check_each;
+pub use each::{check_each, check_each_with_entry};
 pub use error::{ArchiveError, Missing, ShortExtent};
 pub use file::{ArchiveFile, InodeBlock};
 pub use index::CurrentInode;

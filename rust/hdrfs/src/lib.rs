@@ -11,6 +11,8 @@
 //!   is walked link by link.
 //! - [`File`] says where the bytes of a regular file are stored: at a position, or in runs.
 //! - [`fetch`] hands out stored bytes.
+//! - [`Volume::follows`] says whether a volume is the next one after another, and of many volumes
+//!   their [`ChainEntry`]s do; [`Digest`] takes the SHA-256 digest of bytes that come in parts.
 //! - [`Writer`] writes a volume into a lent buffer, block by block; [`Extents`] and [`LinkList`] put
 //!   together what an inode block and a link table have.
 //!
@@ -47,6 +49,8 @@ mod archive;
 mod bad_text;
 mod blocks;
 mod bookmark;
+mod chain;
+mod digest;
 mod extents;
 mod fetch;
 mod file;
@@ -65,12 +69,14 @@ mod walk;
 mod writer;
 
 pub use archive::{
-    check_each, Archive, ArchiveError, ArchiveFile, ArchiveReader, Checker, Chunk, Chunks,
-    CurrentInode, InodeBlock, LastLink, Member, Missing, ShortExtent,
+    check_each, check_each_with_entry, Archive, ArchiveError, ArchiveFile, ArchiveReader, Checker,
+    Chunk, Chunks, CurrentInode, InodeBlock, LastLink, Member, Missing, ShortExtent,
 };
 pub use bad_text::BadText;
 pub use blocks::{Block, Blocks, Content};
 pub use bookmark::Bookmark;
+pub use chain::{ChainEntry, Mismatch, PairError};
+pub use digest::Digest;
 pub use extents::{Extent, ExtentIter, Extents, Multiplicity};
 pub use fetch::fetch;
 pub use file::{File, Logical, Physical, Place, Stored};

@@ -38,7 +38,8 @@ pub struct Refusal {
     /// Which refusal it is.
     pub number: u64,
     /// Where in the volume: 0 for the header, else where the block begins. A refusal of
-    /// [`fetch`](crate::fetch) has the offset that was asked for, or 0 where a header is at fault.
+    /// [`fetch`](crate::fetch) has the offset that was asked for, or 0 where a header is at fault; one
+    /// of a digest, or of a volume that does not follow another, has 0.
     pub offset: u64,
     /// The number of the block at fault, counted from 0 behind the header; of a
     /// [`Writer`](crate::Writer), of the block that was not written. There is none where the header

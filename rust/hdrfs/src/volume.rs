@@ -1,10 +1,11 @@
-//! Whole volumes: the check, the header, and the beginning of a walk.
+//! Whole volumes: the check, the header, the beginning of a walk, the digest, and the one behind.
 
 use std::fmt;
 
 use crate::blocks::part;
 use crate::bookmark::Numbers;
-use crate::{sys, Blocks, Bookmark, File, Lengths, Refusal, Rejected};
+use crate::{chain, sys};
+use crate::{Blocks, Bookmark, Digest, File, Lengths, PairError, Refusal, Rejected};
 
 /// The most bytes that a volume may have. Whoever reads a file needs to read only one more to have
 /// it refused.
@@ -93,6 +94,53 @@ impl Volume {
     #[must_use]
     pub fn blocks(volume: &[u8]) -> Blocks<'_> {
         Blocks::of(volume)
+    }
+
+    /// The SHA-256 digest of bytes, accepted or not: of a whole volume, the hash that the next one
+    /// states. More than 16,777,216 bytes are refused with 1. [`Digest`] is for bytes that come in
+    /// parts.
+    ///
+    /// ```
+    /// use hdrfs::{LinkList, Volume, Writer};
+    /// # std::env::set_current_dir("../../crates/samples/data")?;
+    ///
+    /// let first = std::fs::read("v.vol")?;
+    /// let heading = Volume::header(&first)?;
+    /// let mut buf = [0; 200];
+    /// let next = heading.sequence + 1;
+    /// let mut writer = Writer::create(&mut buf, &heading.id, next, &Volume::digest(&first)?)?;
+    /// writer.append_links(&LinkList::new())?;
+    /// assert_eq!(Volume::follows(&first, writer.written()), Ok(()));
+    /// # Ok::<(), Box<dyn std::error::Error>>(())
+    /// ```
+    pub fn digest(bytes: &[u8]) -> Result<[u8; Digest::LEN], Refusal> {
+        let mut digest = [0; Digest::LEN];
+        let refusal = sys::sha256(bytes, &mut digest);
+        Refusal::unless_accepted(&refusal, 0, None)?;
+        Ok(digest)
+    }
+
+    /// Whether the second volume follows the first: both are accepted, they have the same file system
+    /// ID, the second's sequence number is one above the first's, and its hash of the previous volume
+    /// is the digest of the first.
+    ///
+    /// Both are checked, and the first is digested. Of more volumes than two, each is compared with two
+    /// others: then a [`ChainEntry`](crate::ChainEntry) of each saves half of the work.
+    ///
+    /// ```
+    /// use hdrfs::{Mismatch, PairError, Volume};
+    /// # std::env::set_current_dir("tests/gauge")?;
+    ///
+    /// let (first, second) = (std::fs::read("0.vol")?, std::fs::read("1.vol")?);
+    /// assert_eq!(Volume::follows(&first, &second), Ok(()));
+    /// let error = Volume::follows(&first, &first).unwrap_err();
+    /// assert_eq!(error, PairError::Mismatch(Mismatch::Sequence { first: 0, second: 0 }));
+    /// let words = "refused 23: the second volume does not follow the first (it is volume 0 too)";
+    /// assert_eq!(error.to_string(), words);
+    /// # Ok::<(), Box<dyn std::error::Error>>(())
+    /// ```
+    pub fn follows(first: &[u8], second: &[u8]) -> Result<(), PairError> {
+        chain::follows(first, second)
     }
 }
 

@@ -9,7 +9,7 @@ use super::index::{Finder, Found};
 use super::pages::Digests;
 use super::scan::{scan, Scanned};
 use super::ArchiveError;
-use crate::{Bookmark, MAX_VOLUME_LEN};
+use crate::{Bookmark, ChainEntry, Heading, Refusal, MAX_VOLUME_LEN};
 
 /// A volume that was checked and accepted. It can be put into an [`Archive`](crate::Archive).
 ///
@@ -202,23 +202,54 @@ impl Checker {
     /// # Ok::<(), std::io::Error>(())
     /// ```
     pub fn path(&mut self, path: impl Into<PathBuf>) -> Result<Member, ArchiveError> {
-        let path = path.into();
+        let (member, ()) = self.path_and(path.into(), |_, _| Ok(()))?;
+        Ok(member)
+    }
+
+    /// The same, and takes the SHA-256 digest of the volume: what its place in the chain depends on is
+    /// answered beside it. The file is read once for both.
+    ///
+    /// ```
+    /// # std::env::set_current_dir("tests/gauge")?;
+    /// let mut checker = hdrfs::Checker::new();
+    /// let (_, first) = checker.path_with_entry("0.vol")?;
+    /// let (member, second) = checker.path_with_entry("1.vol")?;
+    /// assert_eq!((member.sequence(), second.follows(&first)), (1, Ok(())));
+    /// # Ok::<(), Box<dyn std::error::Error>>(())
+    /// ```
+    pub fn path_with_entry(
+        &mut self,
+        path: impl Into<PathBuf>,
+    ) -> Result<(Member, ChainEntry), ArchiveError> {
+        self.path_and(path.into(), ChainEntry::of_accepted)
+    }
+
+    /// Reads a volume and checks it, and takes from the header and the bytes of an accepted one what
+    /// else is wanted, while they are at hand.
+    fn path_and<T>(
+        &mut self,
+        path: PathBuf,
+        take: impl FnOnce(&Heading, &[u8]) -> Result<T, Refusal>,
+    ) -> Result<(Member, T), ArchiveError> {
         let is_file = match self.read(&path) {
             Ok(is_file) => is_file,
             Err(error) => return Err(ArchiveError::io(path, error)),
         };
         let (scanned, found) = check(&path, &self.buffer)?;
+        let taken = take(&scanned.heading, &self.buffer);
+        let taken = taken.map_err(|refusal| ArchiveError::refused(&path, refusal))?;
         let stock = if is_file {
             Stock::File(Digests::of(&self.buffer))
         } else {
             Stock::Kept(Arc::new(std::mem::take(&mut self.buffer)))
         };
-        Ok(Member {
+        let member = Member {
             path,
             scanned,
             stock,
             found,
-        })
+        };
+        Ok((member, taken))
     }
 
     /// Checks a volume that the caller has in memory. The name is the one that errors have.

@@ -36,10 +36,17 @@ pub fn sealed(body: Vec<u8>) -> Vec<u8> {
 }
 
 pub fn header(sequence: u64) -> Vec<u8> {
+    header_of([0; 16], sequence, [0; 32])
+}
+
+/// A header with a file system ID and the hash of the previous volume.
+pub fn header_of(id: [u8; 16], sequence: u64, previous: [u8; 32]) -> Vec<u8> {
     let mut body = MAGIC.to_vec();
-    body.extend([0; 1 + 16 + 2]);
+    body.push(0);
+    body.extend(id);
+    body.extend([0; 2]);
     body.extend(sequence.to_le_bytes());
-    body.extend([0; 32]);
+    body.extend(previous);
     sealed(body)
 }
 
