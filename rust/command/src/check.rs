@@ -4,26 +4,30 @@ use std::num::NonZeroUsize;
 use std::ops::ControlFlow;
 use std::path::PathBuf;
 
-use hdrfs::{check_each, Archive, ArchiveError, Member};
+use hdrfs::{check_each, check_each_with_entry, Archive, ArchiveError, ChainEntry, Member};
 
+use crate::chain::Links;
 use crate::commands::Request;
 use crate::failure::{Failure, Status};
 use crate::input;
 use crate::json::{list, Object};
 use crate::output;
 use crate::progress::Progress;
+use crate::tally::Tally;
 use crate::text::{count, hex, listed, shown};
 use crate::words::Words;
 
 #[derive(Debug)]
 pub struct Check {
     pub files: Vec<PathBuf>,
+    pub chain: bool,
     pub jobs: NonZeroUsize,
 }
 
 impl Request for Check {
     fn parse(words: &mut Words) -> Result<Check, String> {
         Ok(Check {
+            chain: words.flag("--chain"),
             jobs: words.jobs()?,
             files: words.files()?,
         })
@@ -32,14 +36,22 @@ impl Request for Check {
     fn run(&self, json: bool) -> Result<Status, Failure> {
         let files = input::volumes(&self.files)?;
         let progress = Progress::new("volume", "checked", files.len() as u64);
-        let mut report = Report::new(json);
-        let ended = check_each(&files, self.jobs, |_, verdict| {
+        let mut report = Report::new(json, self.chain);
+        let mut take_in = |verdict| {
             progress.add(1);
             match progress.hidden(|| report.take_in(verdict)) {
                 Ok(()) => ControlFlow::Continue(()),
                 Err(failure) => ControlFlow::Break(failure),
             }
-        });
+        };
+        let ended = match self.chain {
+            true => check_each_with_entry(&files, self.jobs, |_, verdict| {
+                take_in(verdict.map(|(member, entry)| (member, Some(entry))))
+            }),
+            false => check_each(&files, self.jobs, |_, verdict| {
+                take_in(verdict.map(|member| (member, None)))
+            }),
+        };
         drop(progress);
         match ended {
             ControlFlow::Continue(()) => report.finish(),
@@ -48,75 +60,65 @@ impl Request for Check {
     }
 }
 
-/// What is printed: a line for each volume, and then what holds of all.
+/// What is printed: a line for each volume, then what holds of all, and whether they are a chain.
 struct Report {
     json: bool,
-    accepted: u64,
-    refused: u64,
-    unread: u64,
+    tally: Tally,
     set: Archive,
     /// Why the accepted volumes are no set.
     no_set: Option<Failure>,
+    /// The accepted volumes, where it is asked whether they are a chain.
+    links: Option<Links>,
 }
 
 impl Report {
-    fn new(json: bool) -> Report {
+    fn new(json: bool, chain: bool) -> Report {
         Report {
             json,
-            accepted: 0,
-            refused: 0,
-            unread: 0,
+            tally: Tally::new(json),
             set: Archive::new(),
             no_set: None,
+            links: chain.then(Links::default),
         }
     }
 
-    fn take_in(&mut self, verdict: Result<Member, ArchiveError>) -> Result<(), Failure> {
-        match verdict {
-            Ok(member) => {
-                self.accepted += 1;
-                self.put(&member)?;
-                if self.no_set.is_none() {
-                    let inserted = self.set.insert(member.without_inodes());
-                    self.no_set = inserted.err().map(Failure::from);
-                }
-                Ok(())
-            }
-            Err(error) => self.put_failure(&error.into()),
+    fn take_in(
+        &mut self,
+        verdict: Result<(Member, Option<ChainEntry>), ArchiveError>,
+    ) -> Result<(), Failure> {
+        let (member, entry) = match verdict {
+            Ok(accepted) => accepted,
+            Err(error) => return self.tally.fail(&error.into()),
+        };
+        self.tally.accepted += 1;
+        self.put(&member, entry.as_ref())?;
+        if let (Some(links), Some(entry)) = (&mut self.links, entry) {
+            links.add(member.path(), entry);
         }
+        if self.no_set.is_none() {
+            let inserted = self.set.insert(member.without_inodes());
+            self.no_set = inserted.err().map(Failure::from);
+        }
+        Ok(())
     }
 
-    fn put(&self, member: &Member) -> Result<(), Failure> {
+    fn put(&self, member: &Member, entry: Option<&ChainEntry>) -> Result<(), Failure> {
         let line = match self.json {
-            true => object(member).line(),
+            true => object(member, entry).line(),
             false => format!("{}: {}\n", shown(member.path()), words(member)),
         };
         output::print(&line).map(|_| ())
     }
 
-    fn put_failure(&mut self, failure: &Failure) -> Result<(), Failure> {
-        let is_refused = failure.status() == Status::Refused;
-        *(if is_refused {
-            &mut self.refused
-        } else {
-            &mut self.unread
-        }) += 1;
-        let line = match self.json {
-            true => failure.json(),
-            false => format!("{failure}\n"),
-        };
-        if !self.json && !is_refused {
-            output::say(failure);
-            return Ok(());
-        }
-        output::print(&line).map(|_| ())
-    }
-
-    /// What holds of all volumes. A file that could not be read outweighs a refused one, since
-    /// nothing is known about it.
-    fn finish(self) -> Result<Status, Failure> {
-        let (accepted, refused, unread) = (self.accepted, self.refused, self.unread);
-        let all = accepted + refused + unread;
+    /// What holds of all volumes.
+    fn finish(mut self) -> Result<Status, Failure> {
+        let Tally {
+            accepted,
+            refused,
+            unread,
+            ..
+        } = self.tally;
+        let all = self.tally.all();
         let mut text = String::new();
         if !self.json {
             let all = count(all, "file");
@@ -131,18 +133,15 @@ impl Report {
             };
         }
         output::print(&text)?;
-        Ok(match (refused, unread, self.no_set) {
-            (_, 1.., _) => Status::WrongUse,
-            (0, 0, None) => Status::Accepted,
-            _ => Status::Refused,
-        })
+        let is_unbroken = match self.links.take() {
+            Some(links) => links.tell(self.json, self.tally.whole())?,
+            None => true,
+        };
+        Ok(self.tally.status(self.no_set.is_none() && is_unbroken))
     }
 
     fn set_words(&self) -> String {
-        let whole = match self.refused + self.unread {
-            0 => "",
-            _ => "of those accepted: ",
-        };
+        let whole = self.tally.whole();
         if let Some(failure) = &self.no_set {
             return format!("{whole}not one set: {failure}\n");
         }
@@ -196,7 +195,8 @@ fn words(member: &Member) -> String {
     format!("accepted, volume {sequence}, blocks {blocks}, end {end}, {time}")
 }
 
-fn object(member: &Member) -> Object {
+/// The same for machines, with the digest if it was taken.
+fn object(member: &Member, entry: Option<&ChainEntry>) -> Object {
     let end = member.end();
     let object = Object::new()
         .text("file", &member.path().to_string_lossy())
@@ -205,8 +205,12 @@ fn object(member: &Member) -> Object {
         .text("previous", &hex(&member.previous()))
         .number("blocks", member.block_count())
         .number("end", end.offset);
-    match end.last_time {
+    let object = match end.last_time {
         Some(time) => object.number("time", time),
+        None => object,
+    };
+    match entry {
+        Some(entry) => object.text("digest", &hex(&entry.digest)),
         None => object,
     }
 }

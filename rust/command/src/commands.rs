@@ -3,7 +3,9 @@
 use std::ffi::OsString;
 use std::fmt;
 
+use crate::chain::Chain;
 use crate::check::Check;
+use crate::digest::Digests;
 use crate::extract::Extract;
 use crate::failure::{Failure, Status};
 use crate::help;
@@ -23,12 +25,24 @@ pub struct Command {
     pub parse: fn(&mut Words) -> Result<Box<dyn Request>, String>,
 }
 
-pub const COMMANDS: [Command; 5] = [
+pub const COMMANDS: [Command; 7] = [
     Command {
         name: "check",
         summary: help::CHECK_SUMMARY,
         help: help::CHECK,
         parse: parse::<Check>,
+    },
+    Command {
+        name: "chain",
+        summary: help::CHAIN_SUMMARY,
+        help: help::CHAIN,
+        parse: parse::<Chain>,
+    },
+    Command {
+        name: "digest",
+        summary: help::DIGEST_SUMMARY,
+        help: help::DIGEST,
+        parse: parse::<Digests>,
     },
     Command {
         name: "list",

@@ -43,28 +43,84 @@ pub const CHECK_SUMMARY: &str = "\
 ";
 
 pub const CHECK: &str = "\
-hdrfs check FILE.. [-j N] [--json]
+hdrfs check FILE.. [--chain] [-j N] [--json]
 
 Checks whole volumes. Prints a line for each, in the order given, and a summary.
 Of several it says whether those that are sound are one set: they are of one
 file system, and no sequence number is there twice. Numbers that are missing
 are told, and are no fault.
 
+  --chain           say also whether each follows the one before it, as
+                    hdrfs chain does: there, a missing number is a fault
   -j N, --jobs N    check up to N volumes at a time (as many as there are
                     cores, if not given)
   --json            an object a file, and no summary: file, sequence, id (of
-                    the file system), previous (hash), blocks, end, and time if
-                    there is a last one; or file, refused, offset, block (none
-                    if the header is at fault), words and blocks (accepted
-                    before), and if a text is not UTF-8: text (its number in
-                    the block, from 0), start (the byte of it at which that
-                    begins) and which (what the text is); or file and error.
-                    Of several at the end: set (true or false), and id, volumes
-                    (how many) and missing (first and last of each gap), or
-                    error
+                    the file system), previous (hash), blocks, end, time if
+                    there is a last one, and digest with --chain; or file,
+                    refused, offset, block (none if the header is at fault),
+                    words and blocks (accepted before), and if a text is not
+                    UTF-8: text (its number in the block, from 0), start (the
+                    byte of it at which that begins) and which (what the text
+                    is); or file and error. Of several at the end: set (true or
+                    false), and id, volumes (how many) and missing (first and
+                    last of each gap), or error; and with --chain the objects
+                    of hdrfs chain
 
-Exit status: 0 all are sound and one set; 1 some are refused, or they are no
-set; 2 wrong use, or some cannot be read.
+Exit status: 0 all are sound and one set, and with --chain an unbroken chain; 1
+some are refused, or they are no set or no such chain; 2 wrong use, or some
+cannot be read.
+";
+
+pub const CHAIN_SUMMARY: &str = "\
+\x20 hdrfs chain FILE..                       whether each follows the one before
+";
+
+pub const CHAIN: &str = "\
+hdrfs chain FILE.. [-j N] [--json]
+
+Says whether volumes are an unbroken chain. They may be given in any order, and
+are taken by rising sequence number. A volume follows another if both are sound
+and of one file system, its number is the next one, and the hash of the previous
+volume that it has is the SHA-256 digest of the other. Prints a line for each
+but the first, and then one for all:
+
+  05.vol: follows 04.vol
+  06.vol: refused 23: does not follow 05.vol (previous hash differs)
+  chain: volumes 0 to 6, broken at 1 of 6 places
+
+A volume that is not sound is refused as by hdrfs check, and then left out. That
+volumes before the first are not given is told, and is no fault.
+
+  -j N, --jobs N    check up to N volumes at a time (as many as there are
+                    cores, if not given)
+  --json            an object a volume but the first: file, other (the file
+                    before it) and follows (true or false); if false also
+                    refused, words and why, and missing if it is for a gap (its
+                    first and last number, as hdrfs check has them). Of those
+                    not accepted, what hdrfs check prints. At the end: chain
+                    (true or false), first and last (number), pairs and broken
+                    (how many)
+
+Exit status: 0 the chain is unbroken; 1 it is broken, or some are refused; 2
+wrong use, or some cannot be read.
+";
+
+pub const DIGEST_SUMMARY: &str = "\
+\x20 hdrfs digest FILE..                      the SHA-256 digests of files
+";
+
+pub const DIGEST: &str = "\
+hdrfs digest FILE.. [--json]
+
+Prints the SHA-256 digest of each file, in the lines of sha256sum, which checks
+them with its option -c. That of a volume is the hash that the next volume has.
+A file need not be a sound volume; one of more than 16,777,216 bytes is refused,
+and the others are still digested. With - standard input is read.
+
+  --json    an object a file: file and digest; or file, refused, offset and
+            words; or file and error
+
+Exit status: 0 done; 1 some are refused; 2 wrong use, or some cannot be read.
 ";
 
 pub const LIST_SUMMARY: &str = "\

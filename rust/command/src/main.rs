@@ -4,8 +4,10 @@
 //! the library decides.
 #![deny(unsafe_code)]
 
+mod chain;
 mod check;
 mod commands;
+mod digest;
 mod extract;
 mod failure;
 mod help;
@@ -21,6 +23,7 @@ mod runs;
 mod set;
 #[allow(unsafe_code)]
 mod system;
+mod tally;
 mod target;
 mod temporary;
 mod text;

@@ -15,7 +15,11 @@ impl Lines {
     }
 
     pub fn put(&mut self, text: &str) -> Result<(), Failure> {
-        self.0.write_all(text.as_bytes()).map_err(Failure::Output)
+        self.put_bytes(text.as_bytes())
+    }
+
+    fn put_bytes(&mut self, bytes: &[u8]) -> Result<(), Failure> {
+        self.0.write_all(bytes).map_err(Failure::Output)
     }
 
     pub fn flush(&mut self) -> Result<(), Failure> {
@@ -25,8 +29,13 @@ impl Lines {
 
 /// Prints a text at once.
 pub fn print(text: &str) -> Result<Status, Failure> {
+    print_bytes(text.as_bytes())
+}
+
+/// Prints bytes that may be no text, such as the name of a file as it is.
+pub fn print_bytes(bytes: &[u8]) -> Result<Status, Failure> {
     let mut lines = Lines::new();
-    lines.put(text)?;
+    lines.put_bytes(bytes)?;
     lines.flush()?;
     Ok(Status::Accepted)
 }

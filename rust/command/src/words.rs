@@ -26,11 +26,12 @@ const fn opt(long: &'static str, short: Option<&'static str>, valued: bool) -> O
 }
 
 /// All options of all commands.
-const OPTIONS: [Opt; 9] = [
+const OPTIONS: [Opt; 10] = [
     opt("--help", Some("-h"), false),
     opt("--version", Some("-V"), false),
     opt("--json", None, false),
     opt("--long", Some("-l"), false),
+    opt("--chain", None, false),
     opt("--jobs", Some("-j"), true),
     opt("--inode", None, true),
     opt("--from", None, true),
@@ -59,7 +60,11 @@ impl Words {
                 sorted.plain.extend(words);
                 break;
             }
-            if !word.as_encoded_bytes().starts_with(b"-") {
+            if word == "-" {
+                // A name for those who take it for one, and an option that nobody else has.
+                sorted.flags.push("-");
+                sorted.plain.push(word);
+            } else if !word.as_encoded_bytes().starts_with(b"-") {
                 sorted.plain.push(word);
             } else if let Err(why) = sorted.take_in(&word, &mut words) {
                 fault.get_or_insert(why);

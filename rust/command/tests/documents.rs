@@ -42,7 +42,7 @@ fn readme_shows_what_is_printed() {
         fs::copy(gauge.join(name), archive.join(name)).unwrap();
     }
     let runs = shown_runs(&readme());
-    assert_eq!(runs.len(), 4);
+    assert_eq!(runs.len(), 5);
     for (words, lines) in runs {
         let answer = folder.run(&words);
         assert_eq!(answer.out + &answer.err, lines, "hdrfs {words}");

@@ -60,6 +60,9 @@ fn output_that_cannot_be_written_is_no_success() {
         "runs v0 v1 --inode 7",
         "list v0",
         "check v0",
+        "check v0 --chain",
+        "chain v0",
+        "digest v0",
         "--help",
         "check v0 --json",
     ] {
@@ -83,6 +86,8 @@ fn a_closed_pipe_ends_it_as_it_ends_others() {
         "list v0",
         "list v0 --json",
         "check v0 v1",
+        "chain v0 v1",
+        "digest v0 v1",
         "check --fast --json",
         "runs v1 --inode 7 --json",
         "--help",

@@ -12,6 +12,8 @@ fn help_goes_to_standard_output() {
         ("--help", "hdrfs reads HDRFS volumes"),
         ("help", "hdrfs reads HDRFS volumes"),
         ("check --help", "hdrfs check FILE.. "),
+        ("chain --help", "hdrfs chain FILE.. "),
+        ("digest --help", "hdrfs digest FILE.. "),
         ("list -h", "hdrfs list FILE "),
         ("runs --help", "hdrfs runs FILE.. --inode N "),
         ("extract --help", "hdrfs extract FILE.. --inode N -o OUT "),

@@ -31,6 +31,7 @@ fn files(names: &[&str]) -> Vec<PathBuf> {
 fn check(names: &[&str], jobs: usize) -> Check {
     Check {
         files: files(names),
+        chain: false,
         jobs: NonZeroUsize::new(jobs).unwrap(),
     }
 }
@@ -63,6 +64,33 @@ fn checks() {
     assert_eq!(
         ask("check -j1 -- a -- b"),
         is(check(&["a", "--", "b"], 1), false)
+    );
+}
+
+#[test]
+fn chains_and_digests() {
+    let request = Check {
+        chain: true,
+        ..check(&["a", "b"], 2)
+    };
+    assert_eq!(ask("check a --chain b -j2"), is(request, false));
+    let request = || Chain {
+        files: files(&["a", "b"]),
+        jobs: NonZeroUsize::new(2).unwrap(),
+    };
+    assert_eq!(ask("chain a b -j2"), is(request(), false));
+    assert_eq!(ask("--json chain -j2 a b"), is(request(), true));
+    let digests = |names| Digests {
+        files: files(names),
+    };
+    assert_eq!(ask("digest a b"), is(digests(&["a", "b"]), false));
+    assert_eq!(
+        ask("digest a - b -"),
+        is(digests(&["a", "-", "b", "-"]), false)
+    );
+    assert_eq!(
+        ask("digest --json -- - -j"),
+        is(digests(&["-", "-j"]), true)
     );
 }
 
@@ -161,7 +189,14 @@ fn wrong_use_is_said() {
         ("check", "the name of a volume is missing"),
         ("check a --fast", "unknown option --fast"),
         ("check a -x", "unknown option -x"),
-        ("check -", "unknown option -"),
+        ("check -", "check has no option -"),
+        ("chain a -", "chain has no option -"),
+        ("-", "unknown command -"),
+        ("chain", "the name of a volume is missing"),
+        ("chain a --chain", "chain has no option --chain"),
+        ("digest", "the name of a volume is missing"),
+        ("digest a -j 2", "digest has no option --jobs"),
+        ("list a --chain", "list has no option --chain"),
         ("check a -j", "--jobs needs a value"),
         ("check a -j 0", "--jobs has to be at least 1"),
         ("check a -j four", "--jobs four is no number below 2^64"),
