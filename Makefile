@@ -62,7 +62,8 @@ test:
 # The exported calls, made from C through include/hdrfs.h and compared with what they must answer.
 calls:
 	rt staticlib exchange
-	gcc -std=c11 -Wall -Wextra -Werror -Iinclude tests/c/calls.c tests/c/texts.c target/staticlib/libexchange.a -o target/calls
+	gcc -std=c11 -Wall -Wextra -Werror -Iinclude tests/c/calls.c tests/c/texts.c tests/c/digests.c target/staticlib/libexchange.a \
+		-o target/calls
 	./target/calls | diff tests/c/calls.expected -
 
 rust-tests:

@@ -1,7 +1,7 @@
 /* Calls every function of hdrfs.h on two sound volumes, on no bytes at all, and on numbers from the edges, and prints the
  * numbers that come back, a line for each call, in the order of the struct; and writes the second volume anew, and others whose
- * blocks have equal and lower times, or cannot be counted. Texts that are not UTF-8 are tried in texts.c. calls.expected has what
- * both must print.
+ * blocks have equal and lower times, or cannot be counted. Texts that are not UTF-8 are tried in texts.c, digests and pairs of
+ * volumes in digests.c. calls.expected has what all of them must print.
  *
  * The two volumes are the samples v.vol and all_kinds.vol.
  */
@@ -101,6 +101,13 @@ IS_NUMBER(hdrfs_source, text, 1);
 IS_NUMBER(hdrfs_source, start, 2);
 IS_NUMBER(hdrfs_source, which, 3);
 HAS_FIELDS(hdrfs_source, 4);
+
+IS_NUMBER(hdrfs_paired, refusal, 0);
+IS_NUMBER(hdrfs_paired, text, 1);
+IS_NUMBER(hdrfs_paired, start, 2);
+IS_NUMBER(hdrfs_paired, which, 3);
+IS_NUMBER(hdrfs_paired, offset, 4);
+HAS_FIELDS(hdrfs_paired, 5);
 
 IS_NUMBER(hdrfs_written, refusal, 0);
 IS_NUMBER(hdrfs_written, text, 1);
@@ -512,5 +519,6 @@ int main(void)
     read_at_the_top();
     write_at_the_top();
     try_texts();
+    try_digests();
     return 0;
 }

@@ -1,4 +1,4 @@
-/* What the two files of this test share: printing, and the volumes of calls.c. */
+/* What the files of this test share: printing, and the volumes of calls.c. */
 #ifndef CALLS_H
 #define CALLS_H
 
@@ -28,5 +28,8 @@ void show(const char *call, const void *numbers, size_t size);
 
 /* Reads and writes texts that are not UTF-8. */
 void try_texts(void);
+
+/* Takes digests, and compares pairs of volumes. */
+void try_digests(void);
 
 #endif
