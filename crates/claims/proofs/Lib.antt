@@ -30,5 +30,7 @@ pub mod WrongTexts
 pub mod WrongLookups
 pub mod WrongListing
 pub mod WrongPairs
+pub mod WrongDigests
 pub mod Wrong
 pub mod TableLinks
+pub mod Digests

@@ -7,6 +7,7 @@ use Rattle.claims.proofs.WrongNumbers.{numbers-from-one, counts-no-tabl
 use Rattle.claims.proofs.WrongTexts.{start-in-block, last-text-told, text-told-beside-any-number, second-part-told}
 use Rattle.claims.proofs.WrongListing.{invents-listed-blocks}
 use Rattle.claims.proofs.WrongLookups.{holes-only, one-place-only, holes-where-refused}
+use Rattle.claims.proofs.WrongDigests.{feeds-nothing}
 use Rattle.claims.proofs.WrongPairs.{any-id-follows, any-hash-follows, no-volume-follows}
 
 pub wrong-are-shut-out : WrongAreShutOut
@@ -35,4 +36,5 @@ wrong-are-shut-out =
       any-id-follows = any-id-follows;
       any-hash-follows = any-hash-follows;
       no-volume-follows = no-volume-follows;
+      feeds-nothing = feeds-nothing;
     }

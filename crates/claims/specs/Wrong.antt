@@ -15,6 +15,9 @@ use Rattle.refusal.specs.Refusal.{refusalOf}
 use Rattle.refusal.specs.inner.FirstBad.{firstBad}
 use Rattle.refusal.specs.declared.Refusal.{Refusal}
 use Rattle.fips180.specs.Hash.{sha256}
+use Rattle.sha256.specs.Feeding.{new, finishAnswer, wholeAnswer}
+use Rattle.sha256.specs.declared.Digest.{Digest}
+use Rattle.sha256.specs.declared.Fed.{Fed}
 use Rattle.format.specs.Blocks as format
 use Rattle.format.specs.Headers.{Header}
 use Rattle.format.specs.Readings.{timeOf}
@@ -49,6 +52,7 @@ use Rattle.claims.specs.Demand2.{Demand2}
 use Rattle.claims.specs.Demand3.{Demand3}
 use Rattle.claims.specs.Listed.{Listed}
 use Rattle.claims.specs.Chained.{PairClaim}
+use Rattle.claims.specs.Digests.{DigestClaim}
 
 -- ours, but for these calls
 abbrev pub answering :
@@ -302,6 +306,10 @@ anyHash first second =
 abbrev pub noPair : (first second : List ℕ) → Bool
 noPair first second = false
 
+-- Wrong about digests: nothing is fed, and the state stays as it was.
+abbrev pub feedsNothing : Digest → (part : List ℕ) → Fed
+feedsNothing state part = record { refusal = 0; state = state }
+
 -- No claim holds of them.
 pub record WrongAreShutOut : Type 0 where
   pub refuses-all : Demand3 refusesAll → ⊥
@@ -327,3 +335,4 @@ pub record WrongAreShutOut : Type 0 where
   pub any-id-follows : PairClaim ours (pairing anyId) → ⊥
   pub any-hash-follows : PairClaim ours (pairing anyHash) → ⊥
   pub no-volume-follows : PairClaim ours (pairing noPair) → ⊥
+  pub feeds-nothing : DigestClaim new feedsNothing finishAnswer wholeAnswer → ⊥

@@ -61,7 +61,7 @@ cut (suc n) message e =
 pub digest-of-fed : (message : List ℕ) → digestOf (foldl feedByte new message) ≡ sha256 message
 digest-of-fed message = cut (length message / 64) message refl
 
-new-fed : (bytes : List ℕ) → new .fed + length bytes ≡ length bytes
+pub new-fed : (bytes : List ℕ) → new .fed + length bytes ≡ length bytes
 unfolding new
 new-fed bytes = zero-add (length bytes)
 
