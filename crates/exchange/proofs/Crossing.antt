@@ -64,6 +64,7 @@ use Rattle.exchange.specs.Writing.{writtenNumbers}
 use Rattle.exchange.specs.inner.Back.{headerBack, blockWith, foundBack, readBack, checkBack, writtenBack}
 use Rattle.exchange.specs.inner.Back.{positionBack, runsBack, linkBack, extentBack}
 use Rattle.exchange.specs.Crossing.{Crosses, FieldTold, LinksTold, none-left, told, TableTold, Crossing}
+use Rattle.exchange.proofs.States.{state-comes-back, state-kept, new-sized, lent-state-sized, bytes-come-back}
 
 pub bookmark-comes-back : (mark : Bookmark)
     → bookmarkOf (mark .offset) (flagNumber (mark .due)) (timedNumber (mark .last)) (timeNumber (mark .last)) (mark .number) ≡ mark
@@ -240,4 +241,8 @@ everything-crosses =
       extent = λ list index. extent-crosses (extentAt list index);
       link = λ links at. link-crosses (linkFrom links at);
       table-links = table-crosses;
+      state = state-comes-back;
+      state-kept = state-kept;
+      new-state = new-sized;
+      lent-state = λ lent b h. (lent-state-sized lent b h, bytes-come-back lent b h);
     }

@@ -1,2 +1,4 @@
 pub mod Told
+pub mod Handed
+pub mod States
 pub mod Crossing

@@ -3,14 +3,16 @@
 -- Each answer goes out as numbers, and a definition in inner/Back.antt takes numbers back to an answer. It gives back what was
 -- answered, for every answer that the calls can give. So a caller who goes on with the numbers goes on from the same bookmark, and
 -- everything that the library hands out is in them. The way back takes an answer for a refusal exactly where the field `refusal` is
--- not 0: so no refusal has the number 0, and no other answer is taken for one. For fetched bytes see proofs/Told.antt. Proved in
--- proofs/Crossing.antt.
+-- not 0: so no refusal has the number 0, and no other answer is taken for one. The state of a digest goes out
+-- as bytes and comes back from them. For fetched bytes see proofs/Told.antt. Proved in proofs/Crossing.antt.
 use Prim.Native.Nat.{ℕ, _+_, _≤_}
 use Prim.Native.String.{String}
 use mathlib.Core.Path.{_≡_}
-use mathlib.Core.List.{List, [], _∷_}
-use lib.ListN.{length}
-use Rattle.number.specs.Number.{Bytes, part}
+use mathlib.Core.List.{List, [], _∷_, _++_}
+use lib.ListN.{length, take}
+use Rattle.number.specs.Number.{Bytes, part, put}
+use Rattle.sha256.specs.Feeding.{new}
+use Rattle.sha256.specs.declared.Digest.{Digest}
 use Rattle.format.specs.Layout.{widthOf}
 use Rattle.format.specs.Blocks.{linkTable, idOf, Block, TableLink, LinksOf}
 use Rattle.format.specs.Headers.{Header, headerLayout}
@@ -33,6 +35,7 @@ use Rattle.exchange.specs.Checking.{checkNumbers}
 use Rattle.exchange.specs.Walking.{headingNumbers, blockNumbers, linkNumbers, extentNumbers}
 use Rattle.exchange.specs.Places.{placeNumbers, runCountNumbers}
 use Rattle.exchange.specs.Writing.{writtenNumbers}
+use Rattle.exchange.specs.Digests.{SizedState, stateBytes, stateOf}
 use Rattle.exchange.specs.declared.BlockNumbers.{BlockNumbers}
 use Rattle.exchange.specs.declared.LinkNumbers.{LinkNumbers}
 
@@ -106,3 +109,18 @@ pub record Crossing : Type 0 where
       → found .block ≡ Table table
       → (of : LinksOf (table .count) (bytesOf volume (table .links)))
       × TableTold volume (blockNumbers (readAnswer volume mark)) (of .links)
+  -- The state of a digest comes back from its bytes, whatever stands after them, and so from lent bytes over which it was written.
+  -- The new state is sized, and so is every state that hdrfs_sha256_feed writes, by its contract.
+  pub state : (state : Digest) (rest : List ℕ) → SizedState state → stateOf (stateBytes state ++ rest) ≡ state
+  pub state-kept :
+      (state : Digest) (lent : List ℕ)
+      → SizedState state
+      → 104 ≤ length lent
+      → stateOf (put lent 0 (stateBytes state)) ≡ state
+  pub new-state : SizedState new
+  -- lent bytes that are taken for a state, made up or not, are the bytes of that state, which is sized
+  pub lent-state :
+      (lent : List ℕ)
+      → Bytes lent
+      → 104 ≤ length lent
+      → SizedState (stateOf lent) × (stateBytes (stateOf lent) ≡ take 104 lent)
