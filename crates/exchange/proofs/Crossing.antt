@@ -49,6 +49,9 @@ use Rattle.volume.proofs.Steps.{refusalAt, Answers, ends, finds, refuses, answe
 use Rattle.volume.proofs.HeaderImage.{HeaderAnswers, accepts, rejects, header-answers}
 use Rattle.volume.proofs.Verdicts.{EndsWell, check-ends-well}
 use Rattle.volume.proofs.TableLinks.{table-rules}
+use Rattle.chain.specs.Pairing.{pairAnswer}
+use Rattle.chain.specs.declared.Pairing.{Pairing}
+use Rattle.chain.specs.declared.Pairing.the-variants as Pairing
 use Rattle.lookup.specs.inner.Answers.{positionAnswer, runsAnswer}
 use Rattle.lookup.specs.Lookup.{runsFault}
 use Rattle.lookup.proofs.Refusals.{RefusedByNumber, position-refused-by-number}
@@ -61,9 +64,10 @@ use Rattle.exchange.specs.Blocks.{foundNumbers}
 use Rattle.exchange.specs.Walking.{headingNumbers, blockNumbers, linkNumbers, extentNumbers}
 use Rattle.exchange.specs.Places.{placeNumbers, runCountNumbers}
 use Rattle.exchange.specs.Writing.{writtenNumbers}
+use Rattle.exchange.specs.Pairs.{pairNumbers}
 use Rattle.exchange.specs.inner.Back.{headerBack, blockWith, foundBack, readBack, checkBack, writtenBack}
-use Rattle.exchange.specs.inner.Back.{positionBack, runsBack, linkBack, extentBack}
-use Rattle.exchange.specs.Crossing.{Crosses, FieldTold, LinksTold, none-left, told, TableTold, Crossing}
+use Rattle.exchange.specs.inner.Back.{positionBack, runsBack, linkBack, extentBack, pairBack}
+use Rattle.exchange.specs.Crossing.{Crosses, FieldTold, LinksTold, none-left, told, TableTold, withoutBlocks, Crossing}
 use Rattle.exchange.proofs.States.{state-comes-back, state-kept, new-sized, lent-state-sized, bytes-come-back}
 
 pub bookmark-comes-back : (mark : Bookmark)
@@ -224,6 +228,15 @@ table-crosses volume mark found table b e t =
     let of = table-rules volume mark found table b e t in
     (of, table-told volume mark found table e t of)
 
+-- The check of a pair.
+
+pair-crosses : (answer : Pairing) → pairBack (pairNumbers answer) ≡ withoutBlocks answer
+unfolding pairBack pairNumbers
+pair-crosses Pairing.Follows = refl
+pair-crosses (Pairing.FirstRefused r) = refl
+pair-crosses (Pairing.SecondRefused r) = refl
+pair-crosses Pairing.DoesNotFollow = refl
+
 pub everything-crosses : Crossing
 everything-crosses =
     record {
@@ -245,4 +258,5 @@ everything-crosses =
       state-kept = state-kept;
       new-state = new-sized;
       lent-state = λ lent b h. (lent-state-sized lent b h, bytes-come-back lent b h);
+      pair = λ first second. pair-crosses (pairAnswer first second);
     }

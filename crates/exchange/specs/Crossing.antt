@@ -3,8 +3,9 @@
 -- Each answer goes out as numbers, and a definition in inner/Back.antt takes numbers back to an answer. It gives back what was
 -- answered, for every answer that the calls can give. So a caller who goes on with the numbers goes on from the same bookmark, and
 -- everything that the library hands out is in them. The way back takes an answer for a refusal exactly where the field `refusal` is
--- not 0: so no refusal has the number 0, and no other answer is taken for one. The state of a digest goes out
--- as bytes and comes back from them. For fetched bytes see proofs/Told.antt. Proved in proofs/Crossing.antt.
+-- not 0: so no refusal has the number 0, and no other answer is taken for one. The check of a pair is the one exception: the number
+-- of blocks before a volume's own fault does not go out, and such a fault is told by the field `which`. The state of a digest goes
+-- out as bytes and comes back from them. For fetched bytes see proofs/Told.antt. Proved in proofs/Crossing.antt.
 use Prim.Native.Nat.{ℕ, _+_, _≤_}
 use Prim.Native.String.{String}
 use mathlib.Core.Path.{_≡_}
@@ -28,14 +29,18 @@ use Rattle.volume.specs.Writing.{writeAnswer, appendAnswer}
 use Rattle.volume.specs.declared.Bookmark.{Bookmark}
 use Rattle.volume.specs.declared.Found.{Found}
 use Rattle.volume.specs.declared.ReadAnswer.the-variants as ReadAnswer
+use Rattle.chain.specs.Pairing.{pairAnswer}
+use Rattle.chain.specs.declared.Pairing.{Pairing}
+use Rattle.chain.specs.declared.Pairing.the-variants.{Follows, FirstRefused, SecondRefused, DoesNotFollow}
 use Rattle.lookup.specs.inner.Answers.{positionAnswer, runsAnswer}
-use Rattle.exchange.specs.inner.Back.{headerBack, readBack, checkBack, writtenBack, positionBack, runsBack, linkBack, extentBack}
+use Rattle.exchange.specs.inner.Back.{headerBack, readBack, checkBack, writtenBack, positionBack, runsBack, linkBack, extentBack, pairBack}
 use Rattle.exchange.specs.Marks.{flagNumber, timedNumber, timeNumber, bookmarkOf}
 use Rattle.exchange.specs.Checking.{checkNumbers}
 use Rattle.exchange.specs.Walking.{headingNumbers, blockNumbers, linkNumbers, extentNumbers}
 use Rattle.exchange.specs.Places.{placeNumbers, runCountNumbers}
 use Rattle.exchange.specs.Writing.{writtenNumbers}
 use Rattle.exchange.specs.Digests.{SizedState, stateBytes, stateOf}
+use Rattle.exchange.specs.Pairs.{pairNumbers}
 use Rattle.exchange.specs.declared.BlockNumbers.{BlockNumbers}
 use Rattle.exchange.specs.declared.LinkNumbers.{LinkNumbers}
 
@@ -70,6 +75,13 @@ pub record TableTold (volume : List ℕ) (n : BlockNumbers) (links : List TableL
   pub a-table : n .id ≡ idOf linkTable
   pub count : n .count ≡ length links
   pub in-order : LinksTold (part volume (n .part) (n .partlen)) 0 links
+
+-- what of the check of a pair goes out: all but the number of blocks before a fault
+abbrev pub withoutBlocks : Pairing → Pairing
+withoutBlocks Follows = Follows
+withoutBlocks (FirstRefused r) = FirstRefused (record { refusal = r .refusal; offset = r .offset; blocks = 0 })
+withoutBlocks (SecondRefused r) = SecondRefused (record { refusal = r .refusal; offset = r .offset; blocks = 0 })
+withoutBlocks DoesNotFollow = DoesNotFollow
 
 -- What is claimed of the boundary.
 pub record Crossing : Type 0 where
@@ -124,3 +136,5 @@ pub record Crossing : Type 0 where
       → Bytes lent
       → 104 ≤ length lent
       → SizedState (stateOf lent) × (stateBytes (stateOf lent) ≡ take 104 lent)
+  -- hdrfs_pair
+  pub pair : (first second : List ℕ) → pairBack (pairNumbers (pairAnswer first second)) ≡ withoutBlocks (pairAnswer first second)

@@ -1,15 +1,16 @@
 // The calls for programs in other languages, as include/hdrfs.h declares them: numbers and byte slices in, numbers out.
 //
-// Each turns the answer of a public call of `volume`, `links`, `extent`, `lookup` or `sha256` into numbers, by a definition in
+// Each turns the answer of a public call of `volume`, `links`, `extent`, `lookup`, `sha256` or `chain` into numbers, by a definition in
 // specs/. The structs below have the fields of those in the header file, in its order; wherever a refusal can come, it has three of
 // them. The calls of `digests` have no struct: a digest goes to lent bytes, and so does a state, and the refusal is the answer.
 // `checking` has the check of a whole volume, `walking` the header, the blocks, the links and the extents one by one, `places`
-// positions and runs, `sources` the fetching of bytes, `writing` the writing of a header and the appends, and `digests`
-// SHA-256.
+// positions and runs, `sources` the fetching of bytes, `writing` the writing of a header and the appends, `digests` SHA-256, and
+// `pairs` the check of a pair of volumes.
 mod blocks;
 pub mod checking;
 pub mod digests;
 mod marks;
+pub mod pairs;
 pub mod places;
 pub mod sources;
 pub mod walking;
@@ -138,4 +139,14 @@ pub struct MarkNumbers {
     pub timed: u64,
     pub last: u64,
     pub number: u64,
+}
+
+// What the check of a pair of volumes answers: hdrfs_paired.
+#[repr(C)]
+pub struct PairNumbers {
+    pub refusal: u64,
+    pub text: u64,
+    pub start: u64,
+    pub which: u64,
+    pub offset: u64,
 }

@@ -23,6 +23,9 @@ use Rattle.volume.specs.declared.Verdict.{Verdict}
 use Rattle.volume.specs.declared.Verdict.the-variants as Verdict
 use Rattle.volume.specs.declared.WriteAnswer.{WriteAnswer}
 use Rattle.volume.specs.declared.WriteAnswer.the-variants as WriteAnswer
+use Rattle.volume.specs.declared.Rejected.{Rejected}
+use Rattle.chain.specs.declared.Pairing.{Pairing}
+use Rattle.chain.specs.declared.Pairing.the-variants as Pairing
 use Rattle.lookup.specs.declared.PositionAnswer.{PositionAnswer}
 use Rattle.lookup.specs.declared.PositionAnswer.the-variants as PositionAnswer
 use Rattle.lookup.specs.declared.RunsAnswer.{RunsAnswer}
@@ -36,6 +39,7 @@ use Rattle.exchange.specs.declared.CheckNumbers.{CheckNumbers}
 use Rattle.exchange.specs.declared.PlaceNumbers.{PlaceNumbers}
 use Rattle.exchange.specs.declared.RunCountNumbers.{RunCountNumbers}
 use Rattle.exchange.specs.declared.MarkNumbers.{MarkNumbers}
+use Rattle.exchange.specs.declared.PairNumbers.{PairNumbers}
 
 -- the refusal that three numbers tell, or where the first is 0 the other answer
 abbrev pub refusedOr : {Answer : Type 0} (number text start : ℕ) (refused : Refusal → Answer) (other : Answer) → Answer
@@ -138,3 +142,13 @@ extentBack n =
       post = n .post;
       logical = record { 0 = n .logical };
     }
+
+-- a pair, by which of the two volumes is at fault; the number of blocks before a fault is not among the numbers
+abbrev pub faultBack : PairNumbers → Rejected
+faultBack n = record { refusal = record { number = n .refusal; text = n .text; start = n .start }; offset = n .offset; blocks = 0 }
+
+unfoldable pub pairBack : PairNumbers → Pairing
+pairBack n =
+    cond (eqb (n .which) 1) (Pairing.FirstRefused (faultBack n))
+    (cond (eqb (n .which) 2) (Pairing.SecondRefused (faultBack n))
+    (cond (eqb (n .refusal) 0) Pairing.Follows Pairing.DoesNotFollow))
