@@ -5,6 +5,7 @@ use crate::steps::GAUGE;
 use crate::steps::REGULAR;
 use crate::steps::ROW;
 use crate::steps::begin;
+use crate::steps::digest;
 use crate::steps::inode;
 use crate::steps::onward;
 use crate::steps::put_extent;
@@ -34,11 +35,12 @@ fn name_and_unit(buf: &mut [u8; LEN], mark: Bookmark) {
     onward(next, next.append_xattr(buf, 5, GAUGE, b"unit", b"m"));
 }
 
-// Internal: writes the volume and hands it out.
-pub fn make(buf: &mut [u8; LEN]) {
+// Internal: writes the volume, hands it out and answers its digest. The volume fills the buffer.
+pub fn make(buf: &mut [u8; LEN]) -> [u8; 32] {
     let mut mark = begin(buf, 0, &[0u8; 32]);
     mark = readings(buf, mark);
     mark = file(buf, mark);
     name_and_unit(buf, mark);
     hand_out(1, buf);
+    digest(buf)
 }

@@ -1,5 +1,5 @@
-// A small archive of a river gauge: three volumes, made by the library's writers. With three arguments they are written to
-// files of these names. What the volume check answers of each is printed in any case.
+// A small archive of a river gauge: three volumes, made by the library's writers, each with the digest of the one before. With
+// three arguments they are written to files of these names. What the volume check answers of each is printed in any case.
 //
 // The gauge's file is inode 7. Its current version stands in the last volume and is stored in all three.
 mod first;
@@ -9,7 +9,7 @@ mod steps;
 mod third;
 
 fn main() {
-    first::make(&mut [0u8; first::LEN]);
-    second::make(&mut [0u8; second::LEN]);
-    third::make(&mut [0u8; third::LEN]);
+    let of_first = first::make(&mut [0u8; first::LEN]);
+    let of_second = second::make(&mut [0u8; second::LEN], &of_first);
+    third::make(&mut [0u8; third::LEN], &of_second);
 }

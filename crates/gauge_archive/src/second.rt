@@ -4,6 +4,7 @@ use crate::steps::FOLDER;
 use crate::steps::OLD_NAME;
 use crate::steps::SYMBOLIC_LINK;
 use crate::steps::begin;
+use crate::steps::digest;
 use crate::steps::inode;
 use crate::steps::onward;
 use volume::Bookmark;
@@ -30,10 +31,12 @@ fn names(buf: &mut [u8; LEN], first: Bookmark) {
     );
 }
 
-// Internal: writes the volume and hands it out.
-pub fn make(buf: &mut [u8; LEN]) {
-    let mut mark = begin(buf, 1, &[9u8; 32]);
+// Internal: writes the volume after the one with the digest `previous`, hands it out and answers its own digest. The volume
+// fills the buffer.
+pub fn make(buf: &mut [u8; LEN], previous: &[u8; 32]) -> [u8; 32] {
+    let mut mark = begin(buf, 1, previous);
     mark = readings(buf, mark);
     names(buf, mark);
     hand_out(2, buf);
+    digest(buf)
 }

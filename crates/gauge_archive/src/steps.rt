@@ -37,8 +37,18 @@ pub fn onward(mark: Bookmark, answer: WriteAnswer) -> Bookmark {
     }
 }
 
-// Internal: begins a volume. The hash of the volume before is not worked out by the library: volume 0 must have zeros there,
-// and the others have some bytes that stand in for it.
+// Internal: the digest of a volume, which the header of the next one has. A volume here has a few hundred bytes and is not meant
+// to be refused; if it is, the program says so, and the next volume has zeros, which name no volume.
+pub fn digest(volume: &[u8]) -> [u8; 32] {
+    let finished = sha256::sha256(volume);
+    if finished.refusal != 0 {
+        print_pair(b"refused ", finished.refusal);
+        print_word(b" in working out a digest\n");
+    }
+    finished.digest
+}
+
+// Internal: begins a volume. `previous` is the digest of the volume before. Volume 0 has none before it, and must have zeros.
 pub fn begin(buf: &mut [u8], sequence: u64, previous: &[u8]) -> Bookmark {
     let nowhere = Bookmark {
         offset: 0,

@@ -35,9 +35,9 @@ fn file(buf: &mut [u8; LEN], mark: Bookmark) {
     inode(mark, buf, GAUGE, 11, REGULAR, 246, &list);
 }
 
-// Internal: writes the volume and hands it out.
-pub fn make(buf: &mut [u8; LEN]) {
-    let mut mark = begin(buf, 2, &[9u8; 32]);
+// Internal: writes the volume after the one with the digest `previous`, and hands it out.
+pub fn make(buf: &mut [u8; LEN], previous: &[u8; 32]) {
+    let mut mark = begin(buf, 2, previous);
     mark = readings(buf, mark);
     file(buf, mark);
     hand_out(3, buf);
