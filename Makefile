@@ -8,11 +8,13 @@ SAMPLES := crates/samples/data
 HDRFS := rust/target/release/hdrfs
 LIBRARY := target/staticlib/libexchange.a
 DEMO := target/demo
+BROKEN := $(DEMO)/broken
 CRC_BITS := target/crc_bits
 VOLUMES := target/volumes
 PREFIX ?= /usr/local
 
 # The programs written in Rattle have no exit status, so what they wrote is looked at by others: the command's check, and cmp.
+# The last block of volume 0 begins at 392. Cut there, the volume is still accepted, so that only the chain shows the difference.
 demo:
 	@rm -rf $(DEMO) && mkdir -p $(DEMO)
 	@echo "Proving what is shown here; the first time takes some minutes."
@@ -28,7 +30,18 @@ demo:
 	@./target/bin/gauge_archive $(DEMO)/0.vol $(DEMO)/1.vol $(DEMO)/2.vol
 	@$(HDRFS) check $(DEMO)
 	@echo
-	@echo "What is in it, and the blocks of its last volume:"
+	@echo "Each volume after the first has the SHA-256 digest of the one before it:"
+	@$(HDRFS) chain $(DEMO)
+	@echo
+	@echo "A copy whose volume 0 lacks its last block: accepted by itself, but not the volume that volume 1 follows:"
+	@mkdir $(BROKEN) && cp $(DEMO)/1.vol $(DEMO)/2.vol $(BROKEN)
+	@head -c 392 $(DEMO)/0.vol > $(BROKEN)/0.vol
+	@$(HDRFS) check $(BROKEN)/0.vol > $(BROKEN)/check.log
+	@status=0; $(HDRFS) chain $(BROKEN) > $(BROKEN)/chain.log || status=$$?; cat $(BROKEN)/chain.log; test $$status -eq 1
+	@grep -q "/1.vol: refused 23: .* (previous hash differs)$$" $(BROKEN)/chain.log
+	@grep -q "broken at 1 of 2 places$$" $(BROKEN)/chain.log
+	@echo
+	@echo "What is in the archive, and the blocks of its last volume:"
 	@$(HDRFS) inodes $(DEMO)
 	@$(HDRFS) list --long $(DEMO)/2.vol
 	@echo
