@@ -10,7 +10,7 @@ use lib.ListN.{length, replicate}
 use borrow.Author.Tests.{le-ltb}
 use Rattle.number.specs.Number.{put}
 use Rattle.checks.specs.Checks.{Check, check, firstFault}
-use Rattle.sha256.specs.Hash.{sha256}
+use Rattle.fips180.specs.Hash.{sha256}
 use Rattle.sha256.specs.Feeding.{feedByte, tooMany, feedAnswer, digestOf, finishAnswer, wholeAnswer}
 use Rattle.sha256.specs.declared.Digest.{Digest}
 use Rattle.sha256.specs.declared.Fed.{Fed}

@@ -12,7 +12,7 @@ use Rattle.number.proofs.Parts.{length-part, part-at}
 use Rattle.number.proofs.Put.{put-next, put-fits}
 use Rattle.format.specs.Layout.{Fit, laid}
 use Rattle.format.proofs.Fields.{valuesIn, length-laid, values-laid, laid-values, fit-values, values-listed}
-use Rattle.sha256.specs.Constants.{H0}
+use Rattle.fips180.specs.Constants.{H0}
 use Rattle.sha256.specs.Feeding.{new}
 use Rattle.sha256.specs.declared.Digest.{Digest}
 use Rattle.exchange.specs.Digests.{stateWidths, stateNumbers, SizedState, stateBytes, wordsOf, stateOf}

@@ -9,7 +9,7 @@ use Rattle.number.specs.Number.{part, numberAt, put}
 use Rattle.checks.specs.Checks.{Check, check, firstFault}
 use Rattle.format.specs.Layout.{Fit, laid}
 use Rattle.sha256.specs.Feeding.{tooMany}
-use Rattle.sha256.specs.declared.Words.{Words}
+use Rattle.fips180.specs.declared.Words.{Words}
 use Rattle.sha256.specs.declared.Digest.{Digest}
 
 -- The bytes of a state: eight words of 4 bytes and the number of bytes fed in 8, all little-endian, then the 64 held bytes.

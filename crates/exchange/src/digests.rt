@@ -2,10 +2,10 @@
 //
 // Between two parts the state stands in bytes that the caller lends again to the next call. It is taken from them as it stands, also
 // where the caller made it up. Each call answers the number of its refusal; beside one it changes no byte.
+use fips180::Words;
 use refusal::ROOM_TOO_SMALL;
 use sha256::Digest;
 use sha256::Finished;
-use sha256::Words;
 ghost use mathlib.Core.Path.{_≡_};
 ghost use mathlib.Core.List.{[], _∷_, foldl};
 ghost use Prim.Native.Nat.{_+_, _≤_};
@@ -13,7 +13,7 @@ ghost use lib.ListN.{length};
 ghost use Rattle.number.specs.Number.{put};
 ghost use Rattle.checks.specs.Checks.{firstFault};
 ghost use Rattle.format.specs.Layout.{laid};
-ghost use Rattle.sha256.specs.Hash.{sha256};
+ghost use Rattle.fips180.specs.Hash.{sha256};
 ghost use Rattle.sha256.specs.Feeding.{new, feedByte, digestOf};
 ghost use Rattle.exchange.specs.Digests.{SizedState, stateBytes, stateOf, wordsOf, wholeOrder, startOrder, feedOrder, finishOrder, laidOver};
 ghost use Rattle.exchange.specs.inner.Handed.{handOrder};
