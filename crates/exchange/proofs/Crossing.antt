@@ -68,7 +68,7 @@ use Rattle.exchange.specs.Pairs.{pairNumbers}
 use Rattle.exchange.specs.inner.Back.{headerBack, blockWith, foundBack, readBack, checkBack, writtenBack}
 use Rattle.exchange.specs.inner.Back.{positionBack, runsBack, linkBack, extentBack, pairBack}
 use Rattle.exchange.specs.Crossing.{Crosses, FieldTold, LinksTold, none-left, told, TableTold, withoutBlocks, Crossing}
-use Rattle.exchange.proofs.States.{state-comes-back, state-kept, new-sized, lent-state-sized, bytes-come-back}
+use Rattle.digests.proofs.Crossing.{state-comes-back, state-kept, new-sized, lent-state-sized, bytes-come-back}
 
 pub bookmark-comes-back : (mark : Bookmark)
     → bookmarkOf (mark .offset) (flagNumber (mark .due)) (timedNumber (mark .last)) (timeNumber (mark .last)) (mark .number) ≡ mark

@@ -1,4 +1,2 @@
 pub mod Told
-pub mod Handed
-pub mod States
 pub mod Crossing

@@ -39,7 +39,7 @@ use Rattle.exchange.specs.Checking.{checkNumbers}
 use Rattle.exchange.specs.Walking.{headingNumbers, blockNumbers, linkNumbers, extentNumbers}
 use Rattle.exchange.specs.Places.{placeNumbers, runCountNumbers}
 use Rattle.exchange.specs.Writing.{writtenNumbers}
-use Rattle.exchange.specs.Digests.{SizedState, stateBytes, stateOf}
+use Rattle.digests.specs.States.{SizedState, stateBytes, stateOf}
 use Rattle.exchange.specs.Pairs.{pairNumbers}
 use Rattle.exchange.specs.declared.BlockNumbers.{BlockNumbers}
 use Rattle.exchange.specs.declared.LinkNumbers.{LinkNumbers}

@@ -5,7 +5,6 @@ pub mod Walking
 pub mod Places
 pub mod Sources
 pub mod Writing
-pub mod Digests
 pub mod Pairs
 pub mod inner
 pub mod Crossing

@@ -2,13 +2,13 @@
 //
 // Each turns the answer of a public call of `volume`, `links`, `extent`, `lookup`, `sha256` or `chain` into numbers, by a definition in
 // specs/. The structs below have the fields of those in the header file, in its order; wherever a refusal can come, it has three of
-// them. The calls of `digests` have no struct: a digest goes to lent bytes, and so does a state, and the refusal is the answer.
+// them. The calls of `digesting` have no struct: a digest goes to lent bytes, and so does a state, and the refusal is the answer.
 // `checking` has the check of a whole volume, `walking` the header, the blocks, the links and the extents one by one, `places`
-// positions and runs, `sources` the fetching of bytes, `writing` the writing of a header and the appends, `digests` SHA-256, and
+// positions and runs, `sources` the fetching of bytes, `writing` the writing of a header and the appends, `digesting` SHA-256, and
 // `pairs` the check of a pair of volumes.
 mod blocks;
 pub mod checking;
-pub mod digests;
+pub mod digesting;
 mod marks;
 pub mod pairs;
 pub mod places;

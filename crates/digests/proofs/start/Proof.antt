@@ -2,9 +2,9 @@
 use mathlib.Core.Path.{refl}
 use borrow.Author.Tests.{lt-ltb, le-ltb}
 use borrow.Author.Needs.{needs}
-use Rattle.exchange.proofs.Handed.{hit, miss, clear, handed}
-use Rattle.exchange.proofs.digests.hdrfs_sha256_start.Statement.{statement}
-use Rattle.exchange.proofs.digests.hdrfs_sha256_start.Tie as tie
+use Rattle.digests.proofs.Handed.{hit, miss, clear, handed}
+use Rattle.digests.proofs.start.Statement.{statement}
+use Rattle.digests.proofs.start.Tie as tie
 
 returns : tie.Need-returns
 returns c = handed (hit (lt-ltb _ _ (c .if1 .taken)) refl)
@@ -23,6 +23,6 @@ returns-2 c =
     let w = c .before .before in
     handed (miss (le-ltb _ _ (w .before .before .before .if1 .left)) (clear (rw (w .before .start .ensures) at (w .write-state .ensures .0))))
 
-pub hdrfs-sha256-start-spec : {M : Type 1} → statement M
-hdrfs-sha256-start-spec =
+pub start-spec : {M : Type 1} → statement M
+start-spec =
     tie.close (tie.spec returns start-requires write-state-requires same-length returns-2)

@@ -7,10 +7,10 @@ use mir.Val.{Fits}
 use borrow.Author.Tests.{lt-ltb, le-ltb}
 use borrow.Author.Needs.{needs}
 use Rattle.sha256.specs.declared.Digest.{Digest}
-use Rattle.exchange.specs.Digests.{SizedState, stateOf}
-use Rattle.exchange.proofs.Handed.{hit, miss, clear, handed, feed-refused, feed-done}
-use Rattle.exchange.proofs.digests.hdrfs_sha256_feed.Statement.{statement}
-use Rattle.exchange.proofs.digests.hdrfs_sha256_feed.Tie as tie
+use Rattle.digests.specs.States.{SizedState, stateOf}
+use Rattle.digests.proofs.Handed.{hit, miss, clear, handed, feed-refused, feed-done}
+use Rattle.digests.proofs.feed.Statement.{statement}
+use Rattle.digests.proofs.feed.Tie as tie
 
 sized : (state : Digest)
     → (Fits w32 (state .words .a) × (Fits w32 (state .words .b) × (Fits w32 (state .words .c) × (Fits w32 (state .words .d)
@@ -59,8 +59,8 @@ returns-3 c =
     let known = i .before .struct-known .given .1 .0 in
     (h .0, (h .1, λ none. rw (r .1) at (sized (f .feed .result .state) (known .0) (known .1 .0) (w .write-state .ensures .1))))
 
-pub hdrfs-sha256-feed-spec : {M : Type 1} → statement M
-hdrfs-sha256-feed-spec =
+pub feed-spec : {M : Type 1} → statement M
+feed-spec =
     tie.close
     (tie.spec
     returns

@@ -1,4 +1,4 @@
--- A state crosses the boundary whole, both ways. Assumes nothing.
+-- A state comes back from its bytes, and lent bytes from the state that they are taken for. Assumes nothing.
 use Prim.Native.Nat.{ℕ, _+_, _≤_}
 use mathlib.Core.Path.{_≡_, refl, sym, subst⁻¹, ap, ap₂, _∙_}
 use mathlib.Core.List.{List, [], _∷_, _++_, append-assoc, append-nil}
@@ -15,13 +15,7 @@ use Rattle.format.proofs.Fields.{valuesIn, length-laid, values-laid, laid-value
 use Rattle.fips180.specs.Constants.{H0}
 use Rattle.sha256.specs.Feeding.{new}
 use Rattle.sha256.specs.declared.Digest.{Digest}
-use Rattle.exchange.specs.Digests.{stateWidths, stateNumbers, SizedState, stateBytes, wordsOf, stateOf}
-
--- bytes laid over as many others
-pub put-all : (old new : List ℕ) → length new ≡ length old → put old 0 new ≡ new
-put-all old new l =
-    let h : length old ≤ length new = omega arith in
-    put-fits old 0 new (omega arith) ∙ rw (zero-add, drop-of-length-le old h, append-nil)
+use Rattle.digests.specs.States.{stateWidths, stateNumbers, SizedState, stateBytes, wordsOf, stateOf}
 
 -- four words, and all of a state, written one after the other
 pub four-written : (old : List ℕ) (at a b c d : ℕ) {one two three four : List ℕ} → at + 16 ≤ length old

@@ -1,8 +1,8 @@
 -- What sha256 answers is handed out.
 use borrow.Author.Needs.{needs}
-use Rattle.exchange.proofs.Handed.{whole-handed}
-use Rattle.exchange.proofs.digests.hdrfs_sha256.Statement.{statement}
-use Rattle.exchange.proofs.digests.hdrfs_sha256.Tie as tie
+use Rattle.digests.proofs.Handed.{whole-handed}
+use Rattle.digests.proofs.whole.Statement.{statement}
+use Rattle.digests.proofs.whole.Tie as tie
 
 sha256-requires : tie.Need-sha256-requires
 sha256-requires c κs = search needs
@@ -20,5 +20,5 @@ returns c =
     let args = s .before .before .before .args in
     whole-handed (args .out .now) (args .bytes .now) (s .sha256 .ensures) (h .hand-out .ensures)
 
-pub hdrfs-sha256-spec : {M : Type 1} → statement M
-hdrfs-sha256-spec = tie.close (tie.spec sha256-requires hand-out-requires same-length returns)
+pub whole-spec : {M : Type 1} → statement M
+whole-spec = tie.close (tie.spec sha256-requires hand-out-requires same-length returns)

@@ -2,9 +2,9 @@
 use mathlib.Core.Path.{refl, _∙_}
 use borrow.Author.Tests.{lt-ltb}
 use borrow.Author.Needs.{needs}
-use Rattle.exchange.proofs.Handed.{hit, handed, finish-handed}
-use Rattle.exchange.proofs.digests.hdrfs_sha256_finish.Statement.{statement}
-use Rattle.exchange.proofs.digests.hdrfs_sha256_finish.Tie as tie
+use Rattle.digests.proofs.Handed.{hit, handed, finish-handed}
+use Rattle.digests.proofs.finish.Statement.{statement}
+use Rattle.digests.proofs.finish.Tie as tie
 
 returns : tie.Need-returns
 returns c = handed (hit (lt-ltb _ _ (c .if1 .taken)) refl)
@@ -29,7 +29,7 @@ returns-2 c =
     let args = room .before .before .before .args in
     finish-handed (args .out .now) (args .state .now) (room .if1 .left) (f .finish .ensures ∙ rw (f .before .read-state .ensures)) (h .hand-out .ensures)
 
-pub hdrfs-sha256-finish-spec : {M : Type 1} → statement M
-hdrfs-sha256-finish-spec =
+pub finish-spec : {M : Type 1} → statement M
+finish-spec =
     tie.close
     (tie.spec returns read-state-requires finish-requires hand-out-requires same-length returns-2)

@@ -2,9 +2,9 @@
 use mathlib.Core.Path.{_≡_, sym}
 use lib.ListN.{length}
 use borrow.Author.Needs.{needs}
-use Rattle.exchange.proofs.States.{state-written}
-use Rattle.exchange.proofs.digests.write_state.Statement.{statement}
-use Rattle.exchange.proofs.digests.write_state.Tie as tie
+use Rattle.digests.proofs.Crossing.{state-written}
+use Rattle.digests.proofs.write_state.Statement.{statement}
+use Rattle.digests.proofs.write_state.Tie as tie
 
 write-four-requires : tie.Need-write-four-requires
 write-four-requires c κs = search needs

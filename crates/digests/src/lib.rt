@@ -1,7 +1,9 @@
-// SHA-256 of bytes that are lent whole, or in parts.
+// Digests into lent bytes, for callers who keep no state of their own kind.
 //
-// Between two parts the state stands in bytes that the caller lends again to the next call. It is taken from them as it stands, also
-// where the caller made it up. Each call answers the number of its refusal; beside one it changes no byte.
+// Public calls: `whole`, the digest of bytes in one call; `start`, `feed` and `finish`, between which the state stands in bytes that the
+// caller lends again to the next call. It is taken from them as it stands, also where the caller made it up. Each call answers the
+// number of its refusal; beside one it changes no byte.
+// Caller: exchange.
 use fips180::Words;
 use refusal::ROOM_TOO_SMALL;
 use sha256::Digest;
@@ -15,8 +17,8 @@ ghost use Rattle.checks.specs.Checks.{firstFault};
 ghost use Rattle.format.specs.Layout.{laid};
 ghost use Rattle.fips180.specs.Hash.{sha256};
 ghost use Rattle.sha256.specs.Feeding.{new, feedByte, digestOf};
-ghost use Rattle.exchange.specs.Digests.{SizedState, stateBytes, stateOf, wordsOf, wholeOrder, startOrder, feedOrder, finishOrder, laidOver};
-ghost use Rattle.exchange.specs.inner.Handed.{handOrder};
+ghost use Rattle.digests.specs.States.{SizedState, stateBytes, stateOf, wordsOf, wholeOrder, startOrder, feedOrder, finishOrder, laidOver};
+ghost use Rattle.digests.specs.inner.Handed.{handOrder};
 
 // How many bytes a state has: eight words, the number of bytes fed, and the held bytes.
 const STATE: usize = 104;
@@ -25,8 +27,7 @@ const STATE: usize = 104;
 const DIGEST: usize = 32;
 
 // Writes the digest of bytes in one call.
-#[no_mangle]
-pub extern "C" fn hdrfs_sha256(bytes: &[u8], out: &mut [u8]) -> u64
+pub fn whole(bytes: &[u8], out: &mut [u8]) -> u64
     ensures answer { λ r. ⌜ r ≡ firstFault (wholeOrder (now (bytes .entry)) (now (out .entry))) ⌝ }
     ensures out { λ _. ⌜ now (out .exit) ≡ laidOver (wholeOrder (now (bytes .entry)) (now (out .entry)))
         (sha256 (now (bytes .entry))) (now (out .entry)) ⌝ }
@@ -35,8 +36,7 @@ pub extern "C" fn hdrfs_sha256(bytes: &[u8], out: &mut [u8]) -> u64
 }
 
 // Writes a new state.
-#[no_mangle]
-pub extern "C" fn hdrfs_sha256_start(state: &mut [u8]) -> u64
+pub fn start(state: &mut [u8]) -> u64
     ensures answer { λ r. ⌜ r ≡ firstFault (startOrder (now (state .entry))) ⌝ }
     ensures state { λ _. ⌜ now (state .exit) ≡ laidOver (startOrder (now (state .entry))) (stateBytes new) (now (state .entry)) ⌝ }
 {
@@ -47,9 +47,8 @@ pub extern "C" fn hdrfs_sha256_start(state: &mut [u8]) -> u64
     0
 }
 
-// Feeds a part. A state that is written is sized, so the next call reads it back as it is (specs/Crossing.antt).
-#[no_mangle]
-pub extern "C" fn hdrfs_sha256_feed(state: &mut [u8], part: &[u8]) -> u64
+// Feeds a part. A state that is written is sized, so the next call reads it back as it is (proofs/Crossing.antt).
+pub fn feed(state: &mut [u8], part: &[u8]) -> u64
     ensures answer { λ r. ⌜ r ≡ firstFault (feedOrder (now (state .entry)) (now (part .entry))) ⌝ }
     ensures state { λ _. ⌜ now (state .exit) ≡ laidOver (feedOrder (now (state .entry)) (now (part .entry)))
         (stateBytes (foldl feedByte (stateOf (now (state .entry))) (now (part .entry)))) (now (state .entry)) ⌝ }
@@ -68,8 +67,7 @@ pub extern "C" fn hdrfs_sha256_feed(state: &mut [u8], part: &[u8]) -> u64
 }
 
 // Writes the digest of what was fed. The state stays as it is.
-#[no_mangle]
-pub extern "C" fn hdrfs_sha256_finish(state: &[u8], out: &mut [u8]) -> u64
+pub fn finish(state: &[u8], out: &mut [u8]) -> u64
     ensures answer { λ r. ⌜ r ≡ firstFault (finishOrder (now (state .entry)) (now (out .entry))) ⌝ }
     ensures out { λ _. ⌜ now (out .exit) ≡ laidOver (finishOrder (now (state .entry)) (now (out .entry)))
         (digestOf (stateOf (now (state .entry)))) (now (out .entry)) ⌝ }

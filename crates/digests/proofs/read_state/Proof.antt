@@ -3,10 +3,10 @@ use lib.ListN.{replicate}
 use borrow.Author.Needs.{needs}
 use Rattle.number.specs.Number.{part}
 use Rattle.number.proofs.Parts.{length-part}
-use Rattle.exchange.specs.Digests.{stateOf}
-use Rattle.exchange.proofs.States.{put-all}
-use Rattle.exchange.proofs.digests.read_state.Statement.{statement}
-use Rattle.exchange.proofs.digests.read_state.Tie as tie
+use Rattle.digests.specs.States.{stateOf}
+use Rattle.sha256.proofs.Endian.{put-whole}
+use Rattle.digests.proofs.read_state.Statement.{statement}
+use Rattle.digests.proofs.read_state.Tie as tie
 
 slice-aggregate-write-bytes : tie.Need-slice-aggregate-write-bytes
 slice-aggregate-write-bytes c = search needs
@@ -39,7 +39,7 @@ returns c =
       c .before .read-words .ensures,
       c .read-u64 .ensures,
       w .write-bytes .ensures,
-      put-all (replicate 64 0) (part bytes 40 64) (length-part bytes 40 64 (start .pre)),
+      put-whole (replicate 64 0) (part bytes 40 64) (length-part bytes 40 64 (start .pre)),
     )
 
 pub read-state-spec : {M : Type 1} → statement M

@@ -1,8 +1,8 @@
 -- The words stand one after the other.
 use borrow.Author.Needs.{needs}
-use Rattle.exchange.specs.Digests.{wordsOf}
-use Rattle.exchange.proofs.digests.read_words.Statement.{statement}
-use Rattle.exchange.proofs.digests.read_words.Tie as tie
+use Rattle.digests.specs.States.{wordsOf}
+use Rattle.digests.proofs.read_words.Statement.{statement}
+use Rattle.digests.proofs.read_words.Tie as tie
 
 read-u32-requires : tie.Need-read-u32-requires
 read-u32-requires c κs = search needs

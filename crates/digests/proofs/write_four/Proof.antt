@@ -1,8 +1,8 @@
 -- Four words written one after the other are the words laid out.
 use borrow.Author.Needs.{needs}
-use Rattle.exchange.proofs.States.{four-written}
-use Rattle.exchange.proofs.digests.write_four.Statement.{statement}
-use Rattle.exchange.proofs.digests.write_four.Tie as tie
+use Rattle.digests.proofs.Crossing.{four-written}
+use Rattle.digests.proofs.write_four.Statement.{statement}
+use Rattle.digests.proofs.write_four.Tie as tie
 
 write-u32-requires : tie.Need-write-u32-requires
 write-u32-requires c κs = search needs

@@ -15,8 +15,8 @@ use Rattle.sha256.specs.Feeding.{feedByte, tooMany, feedAnswer, digestOf, finis
 use Rattle.sha256.specs.declared.Digest.{Digest}
 use Rattle.sha256.specs.declared.Fed.{Fed}
 use Rattle.sha256.specs.declared.Finished.{Finished}
-use Rattle.exchange.specs.Digests.{stateOf, wholeOrder, finishOrder, laidOver}
-use Rattle.exchange.specs.inner.Handed.{handOrder}
+use Rattle.digests.specs.States.{stateOf, wholeOrder, finishOrder, laidOver}
+use Rattle.digests.specs.inner.Handed.{handOrder}
 
 -- a call with these checks and these new bytes gives this answer, and makes the lent bytes these
 pub data Handed (new old : List ℕ) : List Check → (answer : ℕ) (after : List ℕ) → Type 0 where

@@ -2,9 +2,9 @@
 use mathlib.Core.Path.{refl}
 use borrow.Author.Tests.{eq-eqb, ne-eqb, lt-ltb, le-ltb}
 use borrow.Author.Needs.{needs}
-use Rattle.exchange.proofs.Handed.{hit, miss, clear, handed}
-use Rattle.exchange.proofs.digests.hand_out.Statement.{statement}
-use Rattle.exchange.proofs.digests.hand_out.Tie as tie
+use Rattle.digests.proofs.Handed.{hit, miss, clear, handed}
+use Rattle.digests.proofs.hand_out.Statement.{statement}
+use Rattle.digests.proofs.hand_out.Tie as tie
 
 returns : tie.Need-returns
 returns c =

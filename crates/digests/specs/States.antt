@@ -50,19 +50,19 @@ pub record SizedState (state : Digest) : Type 0 where
 -- The checks of each call, in order. 17: fewer bytes are lent than the state or the digest has; 1: more bytes in all than a volume
 -- may have.
 
--- hdrfs_sha256: 1, 17
+-- whole: 1, 17
 abbrev pub wholeOrder : (bytes out : List ℕ) → List Check
 wholeOrder bytes out = check (tooMany (length bytes)) 1 ∷ check (ltb (length out) 32) 17 ∷ []
 
--- hdrfs_sha256_start: 17
+-- start: 17
 abbrev pub startOrder : (state : List ℕ) → List Check
 startOrder state = check (ltb (length state) 104) 17 ∷ []
 
--- hdrfs_sha256_feed: 17, 1
+-- feed: 17, 1
 abbrev pub feedOrder : (state part : List ℕ) → List Check
 feedOrder state part = check (ltb (length state) 104) 17 ∷ check (tooMany (stateOf state .fed + length part)) 1 ∷ []
 
--- hdrfs_sha256_finish: 17 (the state), 1, 17 (the digest)
+-- finish: 17 (the state), 1, 17 (the digest)
 abbrev pub finishOrder : (state out : List ℕ) → List Check
 finishOrder state out =
     check (ltb (length state) 104) 17 ∷ check (tooMany (stateOf state .fed)) 1 ∷ check (ltb (length out) 32) 17 ∷ []

@@ -1,5 +1,5 @@
 -- Inner page: the checks of handing out what sha256 answers: its own refusal, then 17.
--- Joined to wholeOrder, finishOrder of exchange/Digests by whole-handed, finish-handed.
+-- Joined to wholeOrder, finishOrder of digests/States by whole-handed, finish-handed.
 use Prim.Native.Nat.{ℕ}
 use mathlib.Core.Bool.{not}
 use mathlib.Core.List.{List, [], _∷_}
