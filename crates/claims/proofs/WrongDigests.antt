@@ -7,7 +7,7 @@ use lib.ListN.{getD}
 use Rattle.number.specs.Ascii.{ascii}
 use Rattle.fips180.specs.Padding.{beBytes}
 use Rattle.fips180.specs.Hash.{sha256}
-use Rattle.fips180.specs.Vectors.{EachIsTheDigest}
+use Rattle.fips180.specs.Claimed.{EachIsTheDigest}
 use Rattle.fips180.proofs.Vectors.{published-hold}
 use Rattle.sha256.specs.Feeding.{new, finishAnswer, wholeAnswer}
 use Rattle.sha256.specs.declared.Digest.{Digest}

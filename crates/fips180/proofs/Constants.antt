@@ -8,7 +8,8 @@ use lib.Dec.{leb, ltb}
 use lib.ListN.{length, getD, take}
 use lib.Seq.{getD-take, length-take-le}
 use borrow.Author.Tests.{leb-true, ltb-true}
-use Rattle.fips180.specs.Constants.{K, H0, listed, upward, dividedByNone, primesOf, primes, FractionOf, ConstantsClaim}
+use Rattle.fips180.specs.Constants.{K, H0}
+use Rattle.fips180.specs.Claimed.{listed, upward, dividedByNone, primesOf, primes, FractionOf, ConstantsClaim}
 
 -- the whole part of a root that is at most as large as a number of these
 wholePart : (root number : ℕ) → List ℕ → ℕ

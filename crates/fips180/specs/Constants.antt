@@ -1,11 +1,7 @@
--- FIPS 180-4, sections 4.2.2 and 5.3.3: the constants of SHA-256, and what they are. That they are it is proved by one computed
--- test (proofs/Constants.antt), so nobody has to compare the digits.
-use Prim.Native.Nat.{ℕ, zero, suc, _+_, _-_, _*_, _%_, _^_, _≤_, _<_}
-use mathlib.Core.Path.{_≡_}
-use mathlib.Core.Bool.{Bool, true, not, cond, _&&_}
-use mathlib.Core.List.{List, [], _∷_, _++_}
-use lib.Dec.{eqb}
-use lib.ListN.{length, getD}
+-- FIPS 180-4, sections 4.2.2 and 5.3.3: the constants of SHA-256. What they are is claimed on the page Claimed, so nobody has to compare
+-- the digits.
+use Prim.Native.Nat.{ℕ}
+use mathlib.Core.List.{List, [], _∷_}
 use Rattle.fips180.specs.declared.Words.{Words}
 
 -- 4.2.2: K, sixty-four words
@@ -33,47 +29,3 @@ H0 = record {
   g = 0x1f83d9ab;
   h = 0x5be0cd19;
 }
-
--- What they are.
-
--- the words of a hash value in order
-abbrev pub listed : Words → List ℕ
-listed v = v .a ∷ v .b ∷ v .c ∷ v .d ∷ v .e ∷ v .f ∷ v .g ∷ v .h ∷ []
-
--- so many numbers in a row, from the first on
-unfoldable pub upward : (first count : ℕ) → List ℕ
-upward first zero = []
-upward first (suc count) = first ∷ upward (first + 1) count
-
--- no number of the list divides it
-unfoldable pub dividedByNone : (n : ℕ) → List ℕ → Bool
-dividedByNone n [] = true
-dividedByNone n (d ∷ ds) = not (eqb (n % d) 0) && dividedByNone n ds
-
--- a number from 2 on is prime if none from 2 to below it divides it
-abbrev pub isPrime : (n : ℕ) → Bool
-isPrime n = dividedByNone n (upward 2 (n - 2))
-
--- the prime numbers of a list
-unfoldable pub primesOf : List ℕ → List ℕ
-primesOf [] = []
-primesOf (n ∷ ns) = cond (isPrime n) (n ∷ []) [] ++ primesOf ns
-
--- the first sixty-four prime numbers: those below 312
-unfoldable pub primes : List ℕ
-primes = primesOf (upward 2 310)
-
--- a word is the first 32 bits of the fractional part of a root of a number: with the root's whole part before it, it is the root times
--- 2^32, rounded down
-pub record FractionOf (root number word : ℕ) : Type 0 where
-  pub whole : ℕ
-  pub fits : word < 2 ^ 32
-  pub reached : (whole * 2 ^ 32 + word) ^ root ≤ number * 2 ^ (32 * root)
-  pub not-passed : number * 2 ^ (32 * root) < (whole * 2 ^ 32 + word + 1) ^ root
-
-pub record ConstantsClaim : Type 0 where
-  pub sixty-four-primes : length primes ≡ 64
-  -- 4.2.2: of the cube roots of the first sixty-four prime numbers
-  pub cube-roots : (length K ≡ 64) × ((i : ℕ) → i < 64 → FractionOf 3 (getD primes i 0) (getD K i 0))
-  -- 5.3.3: of the square roots of the first eight
-  pub square-roots : (i : ℕ) → i < 8 → FractionOf 2 (getD primes i 0) (getD (listed H0) i 0)

@@ -2,4 +2,4 @@ pub mod Functions
 pub mod Constants
 pub mod Padding
 pub mod Hash
-pub mod Vectors
+pub mod Claimed

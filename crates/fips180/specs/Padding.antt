@@ -1,7 +1,6 @@
 -- FIPS 180-4, sections 5.1.1 and 5.2.1: a message is padded and parsed. A message of SHA-256 may have any number of bits; here it has
 -- whole bytes, and so have the padding and the parts.
-use Prim.Native.Nat.{ℕ, zero, suc, _+_, _-_, _*_, _/_, _%_, _≤_}
-use mathlib.Core.Path.{_≡_}
+use Prim.Native.Nat.{ℕ, zero, suc, _+_, _-_, _*_, _/_, _%_}
 use mathlib.Core.List.{List, [], _∷_, _++_, foldl}
 use lib.ListN.{length, take, drop, replicate}
 
@@ -18,12 +17,6 @@ beBytes (suc width) value = beBytes width (value / 256) ++ (value % 256 ∷ [])
 -- of 64
 abbrev pub zeroBytes : (len : ℕ) → ℕ
 zeroBytes len = (119 - len % 64) % 64
-
--- 5.1.1, in bits: k, the 7 zero bits after the "1" and those of the zero bytes, is the smallest solution of l + 1 + k ≡ 448 modulo 512,
--- where l is the length. Proved for every length: `fewest-zeros` (proofs/Padding.antt).
-pub record FewestZeros (len : ℕ) : Type 0 where
-  pub solves : (8 * len + 1 + (7 + 8 * zeroBytes len)) % 512 ≡ 448
-  pub fewest : (k : ℕ) → (8 * len + 1 + k) % 512 ≡ 448 → 7 + 8 * zeroBytes len ≤ k
 
 -- 5.1.1: what is appended to a message of so many bytes: the bit "1", zero bits, and the message's length in bits as 8 bytes
 unfoldable pub padding : (len : ℕ) → List ℕ
