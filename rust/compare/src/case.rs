@@ -28,7 +28,7 @@ pub fn compare(case: &Case, tally: &mut Tally) -> Result<(), Difference> {
     }
     for &asked in &case.fetches {
         let refusal = fetching::fetch(&case.volume, &case.other, asked)?;
-        tally.fetch[refusal.number as usize] += 1;
+        tally.reads.fetch[refusal.number as usize] += 1;
     }
     Ok(())
 }
@@ -37,10 +37,10 @@ pub fn compare(case: &Case, tally: &mut Tally) -> Result<(), Difference> {
 fn whole(case: &Case, tally: &mut Tally) -> Result<(), Difference> {
     let bytes = &case.volume;
     let checked = volume::check(bytes)?;
-    tally.check[checked.refusal as usize] += 1;
+    tally.reads.check[checked.refusal as usize] += 1;
     tally.note_text(Call::Check, checked.told());
-    tally.header[volume::header(bytes)?.number as usize] += 1;
-    tally.header[volume::header(&case.other)?.number as usize] += 1;
+    tally.reads.header[volume::header(bytes)?.number as usize] += 1;
+    tally.reads.header[volume::header(&case.other)?.number as usize] += 1;
     as_made(case, &checked)?;
     let walked = blocks::walk(bytes)?;
     same(walked.blocks, checked.blocks, || {
@@ -123,10 +123,10 @@ fn reading(
     tally: &mut Tally,
 ) -> Result<sys::Block, Difference> {
     let block = blocks::read(volume, mark, odd)?;
-    tally.read[block.refusal as usize] += 1;
+    tally.reads.read[block.refusal as usize] += 1;
     tally.note_text(Call::Read, block.told());
     if mark.number == FULL {
-        tally.full[block.refusal as usize] += 1;
+        tally.reads.full[block.refusal as usize] += 1;
         let free = independent::read(volume, mark.numbered(0));
         if let (9, Ok(Reading::Block(free, _))) = (block.refusal, free) {
             tally.uncounted[usize::from(free.id) - 1] += 1;
@@ -138,7 +138,7 @@ fn reading(
 fn positions(case: &Case, inode: &Inode<'_>, tally: &mut Tally) -> Result<(), Difference> {
     for &position in &case.positions {
         let placed = inode.lookup(position)?;
-        tally.lookup[placed.refusal as usize] += 1;
+        tally.reads.lookup[placed.refusal as usize] += 1;
         tally.note_text(Call::Lookup, placed.told());
         if placed.refusal == 0 {
             tally.kinds[placed.kind as usize] += 1;
@@ -150,10 +150,10 @@ fn positions(case: &Case, inode: &Inode<'_>, tally: &mut Tally) -> Result<(), Di
 fn ranges(case: &Case, inode: &Inode<'_>, tally: &mut Tally) -> Result<(), Difference> {
     for &(from, to) in &case.ranges {
         let refusal = inode.runs(from, to, case.room)?;
-        tally.runs[refusal.number as usize] += 1;
+        tally.reads.runs[refusal.number as usize] += 1;
         tally.note_text(Call::Runs, refusal);
         for refusal in inode.runs_at_the_edge(from, to)? {
-            tally.runs[refusal.number as usize] += 1;
+            tally.reads.runs[refusal.number as usize] += 1;
         }
     }
     Ok(())

@@ -1,12 +1,15 @@
 //! How often each answer was compared.
 
-use independent::refusal::LARGEST;
+mod chain;
+mod columns;
+
 use independent::Refusal;
 
 use crate::texts::{Texts, FEW};
+use columns::{add, columns};
 
-/// One count for each refusal number; 0 stands for no refusal.
-pub type Numbers = [u64; LARGEST + 1];
+pub use chain::{Digests, Pairs};
+pub use columns::Numbers;
 
 /// How blocks with a last time before them are come to.
 pub const WAYS: [&str; 3] = ["from the header on", "by a bookmark", "behind a table"];
@@ -31,88 +34,57 @@ impl Call {
     const ALL: [Call; 4] = [Call::Check, Call::Read, Call::Lookup, Call::Runs];
 }
 
-/// The calls, each with the refusal numbers that it can give.
-macro_rules! tally {
-    ($($call:ident: $possible:expr;)*) => {
-        /// What was compared, call by call.
-        #[derive(Clone, Debug, Default)]
-        pub struct Tally {
-            $(pub $call: Numbers,)*
-            /// Holes, stored bytes and positions past the end.
-            pub kinds: [u64; 3],
-            /// Blocks read at the very last time before them, in each of [`WAYS`].
-            pub equal: [u64; 3],
-            /// Blocks refused with 9 since one block more cannot be counted, by their IDs from 1 on.
-            pub uncounted: [u64; 8],
-            /// Readings at the number before, and behind them, as in [`LAST`].
-            pub last: [u64; 3],
-            /// Texts at fault, by [`Call`].
-            pub texts: [Texts; 4],
-        }
-
-        impl Tally {
-            /// Adds the counts of another.
-            pub fn add(&mut self, other: &Tally) {
-                $(add(&mut self.$call, &other.$call);)*
-                add(&mut self.kinds, &other.kinds);
-                add(&mut self.equal, &other.equal);
-                add(&mut self.uncounted, &other.uncounted);
-                add(&mut self.last, &other.last);
-                for (texts, other) in self.texts.iter_mut().zip(&other.texts) {
-                    texts.add(other);
-                }
-            }
-
-            /// The calls with what was counted of them and what can occur.
-            fn calls(&self) -> Vec<(&'static str, &Numbers, &'static [usize])> {
-                vec![$((stringify!($call), &self.$call, &$possible)),*]
-            }
-
-            /// A tally in which everything that can occur came once, and texts at fault often.
-            #[cfg(test)]
-            fn full() -> Tally {
-                let mut tally = Tally {
-                    kinds: [1; 3],
-                    equal: [1; 3],
-                    uncounted: [1; 8],
-                    last: [1; 3],
-                    texts: [Texts { later: FEW, inside: FEW, both: FEW }; 4],
-                    ..Tally::default()
-                };
-                $(for number in $possible {
-                    tally.$call[number] = 1;
-                })*
-                tally
-            }
-        }
-    };
+// 18 cannot occur, since a kept byte needs a block of at least one byte, and no call gives 19 to 22;
+// 23 is for two volumes, see `Pairs`. A lookup reads no header and has no table due and no last time,
+// so 3, 4, 6, 13 and 14 stay out; a reading by a bookmark reads no header either. `full` has the
+// readings at the largest number, where 0 is the end and no block.
+columns! {
+    /// The calls that read a volume, a block or a file.
+    Reads {
+        check: [0, 1, 2, 3, 4, 5, 6, 7, 8, 9, 10, 11, 12, 13, 14];
+        header: [0, 1, 2, 3, 4, 5, 6];
+        read: [0, 1, 2, 5, 7, 8, 9, 10, 11, 12, 13, 14];
+        full: [0, 1, 2, 5, 7, 8, 9, 10, 11, 12, 13, 14];
+        lookup: [0, 1, 2, 5, 7, 8, 9, 10, 11, 12, 15, 16];
+        runs: [0, 1, 2, 5, 7, 8, 9, 10, 11, 12, 15, 16, 17];
+        fetch: [0, 1, 2, 3, 4, 5, 6, 16];
+    }
 }
 
-// 18 cannot occur, since a kept byte needs a block of at least one byte. A lookup reads no header and
-// has no table due and no last time, so 3, 4, 6, 13 and 14 stay out; a reading by a bookmark reads no
-// header either. `full` has the readings at the largest number, where 0 is the end and no block.
-tally! {
-    check: [0, 1, 2, 3, 4, 5, 6, 7, 8, 9, 10, 11, 12, 13, 14];
-    header: [0, 1, 2, 3, 4, 5, 6];
-    read: [0, 1, 2, 5, 7, 8, 9, 10, 11, 12, 13, 14];
-    full: [0, 1, 2, 5, 7, 8, 9, 10, 11, 12, 13, 14];
-    lookup: [0, 1, 2, 5, 7, 8, 9, 10, 11, 12, 15, 16];
-    runs: [0, 1, 2, 5, 7, 8, 9, 10, 11, 12, 15, 16, 17];
-    fetch: [0, 1, 2, 3, 4, 5, 6, 16];
+/// What was compared of the cases.
+#[derive(Clone, Debug, Default)]
+pub struct Tally {
+    /// The answers, call by call.
+    pub reads: Reads,
+    /// Holes, stored bytes and positions past the end.
+    pub kinds: [u64; 3],
+    /// Blocks read at the very last time before them, in each of [`WAYS`].
+    pub equal: [u64; 3],
+    /// Blocks refused with 9 since one block more cannot be counted, by their IDs from 1 on.
+    pub uncounted: [u64; 8],
+    /// Readings at the number before, and behind them, as in [`LAST`].
+    pub last: [u64; 3],
+    /// Texts at fault, by [`Call`].
+    pub texts: [Texts; 4],
 }
 
 impl Tally {
+    /// Adds the counts of another.
+    pub fn add(&mut self, other: &Tally) {
+        self.reads.add(&other.reads);
+        add(&mut self.kinds, &other.kinds);
+        add(&mut self.equal, &other.equal);
+        add(&mut self.uncounted, &other.uncounted);
+        add(&mut self.last, &other.last);
+        for (texts, other) in self.texts.iter_mut().zip(&other.texts) {
+            texts.add(other);
+        }
+    }
+
     /// Answers that can occur and were not compared, or the other way round.
     #[must_use]
     pub fn faults(&self) -> Vec<String> {
-        let mut faults = Vec::new();
-        for (name, numbers, possible) in self.calls() {
-            for (number, &count) in numbers.iter().enumerate() {
-                if (count > 0) != possible.contains(&number) {
-                    faults.push(format!("{name}: answer {number} came {count} times"));
-                }
-            }
-        }
+        let mut faults = self.reads.faults();
         for (kind, &count) in self.kinds.iter().enumerate() {
             if count == 0 {
                 faults.push(format!("lookup: no position of kind {kind}"));
@@ -149,16 +121,7 @@ impl Tally {
     /// A table of all counts.
     #[must_use]
     pub fn table(&self) -> String {
-        let mut text = String::from("answer");
-        for (name, _, _) in self.calls() {
-            text += &format!("{name:>10}");
-        }
-        for number in 0..=LARGEST {
-            text += &format!("\n{number:6}");
-            for (_, numbers, _) in self.calls() {
-                text += &format!("{:10}", numbers[number]);
-            }
-        }
+        let mut text = self.reads.table();
         let [holes, stored, past_end] = self.kinds;
         text += &format!("\nholes {holes}, stored {stored}, past end {past_end}");
         for (way, count) in WAYS.iter().zip(self.equal) {
@@ -175,16 +138,29 @@ impl Tally {
     }
 }
 
-fn add<const N: usize>(sum: &mut [u64; N], other: &[u64; N]) {
-    for (sum, number) in sum.iter_mut().zip(other) {
-        *sum += number;
+/// A tally in which everything that can occur came once, and texts at fault often.
+#[cfg(test)]
+fn full() -> Tally {
+    let often = Texts {
+        later: FEW,
+        inside: FEW,
+        both: FEW,
+    };
+    Tally {
+        reads: Reads::full(),
+        kinds: [1; 3],
+        equal: [1; 3],
+        uncounted: [1; 8],
+        last: [1; 3],
+        texts: [often; 4],
     }
 }
 
 #[cfg(test)]
 mod tests {
-    use super::{Call, Tally, LARGEST};
+    use super::{full, Call, Tally};
     use hdrfs::Refusal;
+    use independent::refusal::LARGEST;
 
     /// The proved library has words for the number, and for none above it.
     #[test]
@@ -196,11 +172,11 @@ mod tests {
 
     #[test]
     fn what_is_missing_is_told() {
-        assert!(Tally::full().faults().is_empty());
-        let mut less = Tally::full();
-        less.runs[17] = 0;
+        assert!(full().faults().is_empty());
+        let mut less = full();
+        less.reads.runs[17] = 0;
         less.equal[2] = 0;
-        less.full[9] = 0;
+        less.reads.full[9] = 0;
         less.uncounted[7] = 0;
         less.last[1] = 0;
         less.texts[Call::Lookup as usize].both -= 1;
@@ -213,8 +189,8 @@ mod tests {
             "Lookup: only 100 later texts, 100 inside one, 99 both",
         ];
         assert_eq!(less.faults(), missing);
-        let mut more = Tally::full();
-        more.lookup[18] = 3;
+        let mut more = full();
+        more.reads.lookup[18] = 3;
         assert_eq!(more.faults(), ["lookup: answer 18 came 3 times"]);
         assert_eq!(
             Tally::default().faults().len(),
