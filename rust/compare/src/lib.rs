@@ -12,7 +12,7 @@
 //!
 //! The calls of `hdrfs` that give Rust types are compared for one seed in twenty. Of archives there is
 //! one for five seeds as bytes, one for 25 as files, and one for 40 that goes through the command, in
-//! the tests of `hdrfs-command`.
+//! the tests of `hdrfs-command`. Of digests there is one for four seeds.
 //!
 //! A case that differs is printed with its seed and its bytes; `HDRFS_SEEDS=1 HDRFS_FIRST=<seed>`
 //! compares it alone. The tests also fail if a refusal number that can occur was not compared, or if
@@ -25,6 +25,7 @@ pub mod archives;
 pub mod blocks;
 pub mod case;
 mod difference;
+pub mod digests;
 pub mod fetching;
 pub mod files;
 pub mod items;
