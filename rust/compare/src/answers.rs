@@ -1,7 +1,7 @@
 //! What the independent implementation answers, in the numbers of the proved one.
 
 use hdrfs::sys;
-use independent::{Block, Body, Bookmark, Header, Part, Place, Reading, Refusal, Verdict};
+use independent::{Block, Body, Bookmark, Header, Pair, Part, Place, Reading, Refusal, Verdict};
 
 /// The answer of this type that is a refusal, beside whose three numbers all is 0.
 macro_rules! refused {
@@ -35,7 +35,7 @@ macro_rules! told {
     )*};
 }
 
-told! { Checked Heading Block Place RunCount Source Written }
+told! { Checked Heading Block Paired Place RunCount Source Written }
 
 /// The answer of a check. Beside a refusal only the offset and the number of blocks stay.
 #[must_use]
@@ -62,6 +62,18 @@ pub fn checked(verdict: &Verdict) -> sys::Checked {
             offset,
             ..refused!(Checked, refusal)
         },
+    }
+}
+
+/// The answer for two neighbours.
+#[must_use]
+pub fn paired(answer: Pair) -> sys::Paired {
+    sys::Paired {
+        refusal: answer.refusal,
+        text: answer.text,
+        start: answer.start,
+        which: answer.which,
+        offset: answer.offset,
     }
 }
 

@@ -1,5 +1,6 @@
 //! Archives: what a set of volumes holds, by both sides.
 
+pub mod chain;
 pub mod facts;
 pub mod files;
 pub mod folder;

@@ -12,7 +12,8 @@
 //!
 //! The calls of `hdrfs` that give Rust types are compared for one seed in twenty. Of archives there is
 //! one for five seeds as bytes, one for 25 as files, and one for 40 that goes through the command, in
-//! the tests of `hdrfs-command`. Of digests there is one for four seeds.
+//! the tests of `hdrfs-command`. Of digests there is one for four seeds, of pairs of volumes one for
+//! two, and of archives with true hashes one for 25; for these the Rust types are always compared.
 //!
 //! A case that differs is printed with its seed and its bytes; `HDRFS_SEEDS=1 HDRFS_FIRST=<seed>`
 //! compares it alone. The tests also fail if a refusal number that can occur was not compared, or if
@@ -32,6 +33,7 @@ pub mod items;
 pub mod json;
 mod lent;
 pub mod links;
+pub mod pairs;
 pub mod requests;
 pub mod seeds;
 pub mod small;

@@ -34,7 +34,7 @@ pub fn header(volume: &[u8]) -> Answer {
 }
 
 /// A verdict, and the number of the block at fault if there is one.
-type Judged = (Verdict, Option<u64>);
+pub(crate) type Judged = (Verdict, Option<u64>);
 
 /// The check and the header by the calls that give Rust types. Answers the refusal of the check.
 pub fn typed(volume: &[u8]) -> Answer {
@@ -64,7 +64,7 @@ fn bad_text(volume: &[u8], refusal: hdrfs::Refusal) -> Result<(), Difference> {
 }
 
 /// What the independent verdict says of the block at fault.
-fn judged(verdict: Verdict) -> Judged {
+pub(crate) fn judged(verdict: Verdict) -> Judged {
     let block = match verdict {
         Verdict::Accepted { .. } => None,
         Verdict::Refused { offset, blocks, .. } => block_at_fault(offset, blocks),
@@ -83,7 +83,7 @@ fn accepted(sequence: u64, blocks: u64, end: hdrfs::Bookmark) -> Judged {
 }
 
 /// A refusal of a whole volume by the proved library.
-fn refused(refusal: hdrfs::Refusal, blocks: u64) -> Judged {
+pub(crate) fn refused(refusal: hdrfs::Refusal, blocks: u64) -> Judged {
     let verdict = Verdict::Refused {
         refusal: plain(refusal),
         offset: refusal.offset,
