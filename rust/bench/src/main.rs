@@ -4,15 +4,18 @@
 //! The checksum is most of the work. So there are two ratios: to the independent implementation with
 //! a look-up for each byte ("table"), and with the faster one that takes eight bytes at a time
 //! ("slicing"). Where checksums are the matter, the same checksums alone are timed too: bit by bit,
-//! by slicing, and by zlib.
+//! by slicing, and by zlib. Digests need no checksum, and have one ratio.
 #![deny(unsafe_code)]
 
 mod appends;
 mod archives;
 mod beside;
+mod chain;
 mod checks;
 mod clock;
+mod digests;
 mod files;
+mod folder;
 mod report;
 mod short;
 mod sums;
@@ -30,7 +33,7 @@ const ROUNDS: usize = 9;
 type Part = fn(usize);
 
 /// The parts, by name.
-const PARTS: [(&str, Part); 8] = [
+const PARTS: [(&str, Part); 10] = [
     ("sums", sums::run),
     ("volumes", volumes::run),
     ("checks", checks::run),
@@ -38,6 +41,8 @@ const PARTS: [(&str, Part); 8] = [
     ("texts", texts::run),
     ("files", files::run),
     ("appends", appends::run),
+    ("digests", digests::run),
+    ("chain", chain::run),
     ("archives", archives::run),
 ];
 

@@ -8,7 +8,7 @@ use std::time::Duration;
 
 use hdrfs::{sys, Archive, Extent, Extents, Inode, Logical, Physical, Writer};
 
-use super::Folder;
+use crate::folder::Folder;
 use crate::timing::{self, use_up};
 
 const LIMIT: usize = 16_777_216;
