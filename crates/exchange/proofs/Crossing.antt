@@ -2,6 +2,7 @@
 -- answers are told apart by the fields of each. Assumes nothing.
 use Prim.Native.Nat.{ℕ}
 use mathlib.Core.Path.{_≡_, refl, sym, ap, ap₂, _∙_}
+use mathlib.Core.Logic.{_↔_}
 use mathlib.Core.Bool.{Bool, true, false, cond}
 use mathlib.Core.List.{List}
 use native.Mathlib.Omega.{arith}
@@ -49,7 +50,7 @@ use Rattle.volume.proofs.Steps.{refusalAt, Answers, ends, finds, refuses, answe
 use Rattle.volume.proofs.HeaderImage.{HeaderAnswers, accepts, rejects, header-answers}
 use Rattle.volume.proofs.Verdicts.{EndsWell, check-ends-well}
 use Rattle.volume.proofs.TableLinks.{table-rules}
-use Rattle.chain.specs.Pairing.{pairAnswer}
+use Rattle.chain.specs.Pairing.{follows, paired, pairAnswer}
 use Rattle.chain.specs.declared.Pairing.{Pairing}
 use Rattle.chain.specs.declared.Pairing.the-variants as Pairing
 use Rattle.lookup.specs.inner.Answers.{positionAnswer, runsAnswer}
@@ -237,6 +238,21 @@ pair-crosses (Pairing.FirstRefused r) = refl
 pair-crosses (Pairing.SecondRefused r) = refl
 pair-crosses Pairing.DoesNotFollow = refl
 
+told-accepted : (first second : Verdict) (following : Bool) → EndsWell first → EndsWell second
+    → pairNumbers (paired first second following) .refusal ≡ 0 → paired first second following ≡ Pairing.Follows
+unfolding pairNumbers paired
+told-accepted (Verdict.Refused r) second following f g e = absurd (f e)
+told-accepted (Verdict.Accepted a) (Verdict.Refused r) following f g e = absurd (g e)
+told-accepted (Verdict.Accepted a) (Verdict.Accepted b) true f g e = refl
+told-accepted (Verdict.Accepted a) (Verdict.Accepted b) false f g e = absurd (omega (arith, e))
+
+pair-refused : (first second : List ℕ) → (pairNumbers (pairAnswer first second) .refusal ≡ 0) ↔ (pairAnswer first second ≡ Pairing.Follows)
+unfolding pairAnswer pairNumbers
+pair-refused first second = (
+  told-accepted (checkAnswer first) (checkAnswer second) (follows first second) (check-ends-well first) (check-ends-well second),
+  λ e. ap (λ (answer : Pairing). pairNumbers answer .refusal) e,
+)
+
 pub everything-crosses : Crossing
 everything-crosses =
     record {
@@ -259,4 +275,5 @@ everything-crosses =
       new-state = new-sized;
       lent-state = λ lent b h. (lent-state-sized lent b h, bytes-come-back lent b h);
       pair = λ first second. pair-crosses (pairAnswer first second);
+      pair-refused = pair-refused;
     }

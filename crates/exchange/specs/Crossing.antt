@@ -9,6 +9,7 @@
 use Prim.Native.Nat.{ℕ, _+_, _≤_}
 use Prim.Native.String.{String}
 use mathlib.Core.Path.{_≡_}
+use mathlib.Core.Logic.{_↔_}
 use mathlib.Core.List.{List, [], _∷_, _++_}
 use lib.ListN.{length, take}
 use Rattle.number.specs.Number.{Bytes, part, put}
@@ -138,3 +139,5 @@ pub record Crossing : Type 0 where
       → SizedState (stateOf lent) × (stateBytes (stateOf lent) ≡ take 104 lent)
   -- hdrfs_pair
   pub pair : (first second : List ℕ) → pairBack (pairNumbers (pairAnswer first second)) ≡ withoutBlocks (pairAnswer first second)
+  -- whoever looks at the refusal alone is right: no volume's own refusal has the number 0
+  pub pair-refused : (first second : List ℕ) → (pairNumbers (pairAnswer first second) .refusal ≡ 0) ↔ (pairAnswer first second ≡ Follows)
