@@ -1,9 +1,9 @@
 -- The claim on digests holds of ours: byte by byte, feeding parts is feeding what they are end to end. Assumes nothing.
-use Prim.Native.Nat.{ℕ, _+_, _≤_, _<_}
+use Prim.Native.Nat.{ℕ, _+_, _%_, _≤_, _<_}
 use mathlib.Core.Path.{_≡_, refl, sym, ap, _∙_}
 use mathlib.Core.List.{List, [], _∷_, _++_, foldl, foldl-append}
 use native.Mathlib.Omega.{arith}
-use lib.ListN.{length, replicate, length-append}
+use lib.ListN.{length, set, replicate, length-append}
 use borrow.Author.Tests.{lt-ltb, le-ltb}
 use Rattle.fips180.specs.Hash.{sha256}
 use Rattle.sha256.specs.Feeding.{new, feedByte, digestOf, feedAnswer, finishAnswer, wholeAnswer}
@@ -88,11 +88,20 @@ not-at-once : (bytes : List ℕ) → 16777216 < length bytes → wholeAnswer byt
 unfolding wholeAnswer
 not-at-once bytes h = rw (lt-ltb 16777216 (length bytes) h)
 
+one : (state : Digest) (byte : ℕ) → state .fed < 16777216
+    → (feedAnswer state (byte ∷ []) .state .held ≡ set (state .held) (state .fed % 64) byte)
+    × (feedAnswer state (byte ∷ []) .state .fed ≡ state .fed + 1)
+unfolding feedByte
+one state byte h =
+    let fed = accepted state (byte ∷ []) (omega arith) in
+    (ap (λ (answer : Fed). answer .state .held) fed, ap (λ (answer : Fed). answer .state .fed) fed)
+
 pub digests-hold : DigestClaim new feedAnswer finishAnswer wholeAnswer
 digests-hold = record {
   whatever-the-cuts = whatever;
   in-one-call = at-once;
   one-after-the-other = both;
+  one-byte = one;
   too-many-fed = not-fed;
   too-many-finished = not-finished;
   too-many-at-once = not-at-once;

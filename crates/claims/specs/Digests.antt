@@ -2,10 +2,10 @@
 --
 -- The calls are parameters: a new state, feeding a part, finishing, and the digest of bytes in one call. `sha256` is FIPS 180-4's. Proved
 -- of ours in proofs/Digests.antt.
-use Prim.Native.Nat.{ℕ, _+_, _≤_, _<_}
+use Prim.Native.Nat.{ℕ, _+_, _%_, _≤_, _<_}
 use mathlib.Core.Path.{_≡_}
 use mathlib.Core.List.{List, [], _∷_, _++_}
-use lib.ListN.{length, replicate}
+use lib.ListN.{length, set, replicate}
 use Rattle.fips180.specs.Hash.{sha256}
 use Rattle.sha256.specs.declared.Digest.{Digest}
 use Rattle.sha256.specs.declared.Fed.{Fed}
@@ -35,6 +35,11 @@ module _ (start : Digest) (feed : Digest → List ℕ → Fed) (finish : Digest 
     pub one-after-the-other :
         (state : Digest) (first second : List ℕ) → state .fed + length (first ++ second) ≤ 16777216
         → feed (feed state first .state) second ≡ feed state (first ++ second)
+    -- a byte is held in the first place that is not in use, the other held bytes keep their values, and one more is counted
+    pub one-byte :
+        (state : Digest) (byte : ℕ) → state .fed < 16777216
+        → (feed state (byte ∷ []) .state .held ≡ set (state .held) (state .fed % 64) byte)
+        × (feed state (byte ∷ []) .state .fed ≡ state .fed + 1)
     -- more than a volume may have is refused with 1, and the state is as it was, also where nothing more is fed
     pub too-many-fed :
         (state : Digest) (part : List ℕ) → 16777216 < state .fed + length part → feed state part ≡ record { refusal = 1; state = state }
