@@ -1,7 +1,8 @@
 //! Reads and writes HDRFS volumes, the format in which water-level networks keep their yearly
 //! archives.
 //!
-//! All that is decided about bytes is decided in a proved library, which this crate links. Reading a
+//! All that is decided about bytes is decided in a proved library, which this crate links, but for
+//! [`ChainEntry::follows`] and the reason in a [`Mismatch`], which compare what it answers. Reading a
 //! single volume copies nothing: names, payloads and stored bytes are parts of the volumes that the
 //! caller lends.
 //!
