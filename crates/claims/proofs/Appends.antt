@@ -1,30 +1,22 @@
--- A list of appends from a start: by the list, each is judged by the rules and the header and blocks stand in the buffer; and a block
--- that is read in a volume is read in a longer one. Assumes nothing.
+-- A list of appends from a start: by the list, each is judged by the rules and the header and blocks stand in the buffer. Assumes
+-- nothing.
 use Prim.Native.Nat.{ℕ, _+_, _-_, _≤_}
 use mathlib.Core.Path.{_≡_, refl, sym, ap, _∙_, subst}
 use mathlib.Core.List.{List, [], _∷_, _++_, append-assoc, append-nil}
 use native.Mathlib.Omega.{arith}
 use lib.ListN.{length, drop}
-use lib.Seq.{drop-drop, drop-append-le}
+use lib.Seq.{drop-drop}
 use Rattle.number.specs.Number.{Bytes, put}
 use Rattle.number.proofs.Put.{length-put, drop-put}
 use Rattle.format.specs.Layout.{All}
 use Rattle.format.specs.Blocks.{Block, image}
 use Rattle.format.specs.Readings.{Reading}
-use Rattle.block.specs.Order.{volumeLimit}
-use Rattle.block.specs.inner.Decoded.{blockAt}
-use Rattle.block.specs.Shown.{shown}
-use Rattle.block.proofs.SameBlock.{same-block}
-use Rattle.volume.specs.Reading.{readAnswer}
 use Rattle.request.specs.Asking.{Sized}
 use Rattle.volume.specs.declared.Bookmark.{Bookmark}
-use Rattle.volume.specs.declared.Found.{Found}
-use Rattle.volume.specs.declared.ReadAnswer.the-variants as read
 use Rattle.volume.specs.declared.WriteAnswer.{WriteAnswer}
-use Rattle.volume.proofs.Steps.{foundAt, found-there, read-further}
-use Rattle.volume.proofs.OneCall.{after, HandedOut, read-sound, Hands, read-complete}
+use Rattle.volume.proofs.OneCall.{after}
 use Rattle.claims.specs.Library.{ours}
-use Rattle.claims.specs.Demand3.{Outcome, onward, answeredFirst, appends, extended, Judged, none-left, accepted, refused, StillRead}
+use Rattle.claims.specs.Demand3.{Outcome, onward, answeredFirst, appends, extended, Judged, none-left, accepted, refused}
 use Rattle.claims.proofs.Appending.{Appended, appended}
 use Rattle.claims.proofs.Appending as one
 use Rattle.claims.proofs.Sofar.{Sofar, sofar-more, admitted-permits, permits-admitted}
@@ -104,28 +96,3 @@ claimed [] sized buffer mark sofar s =
     }
 claimed (block ∷ asked) sized buffer mark sofar s =
     step block asked (claimed asked (sized .1)) buffer mark sofar s (appended buffer mark block (sized .0))
-
--- Earlier blocks.
-
-pub still-read : (volume more : List ℕ) (mark : Bookmark) (found : Found) → Bytes volume → length (volume ++ more) ≤ volumeLimit
-    → readAnswer volume mark ≡ read.Found found → StillRead ours volume (volume ++ more) mark found
-still-read volume more mark found b small e =
-    let offset : ℕ = mark .offset in
-    let block : Block = shown volume (found .block) in
-    let p : HandedOut volume mark found = read-sound volume mark found b e in
-    let further = read-further volume mark found e in
-    let after : List ℕ = drop (found .next .offset) volume in
-    let d : drop offset (volume ++ more) ≡ image block ++ (after ++ more)
-    = drop-append-le offset volume more (omega (arith, further .0, further .1)) ∙ ap (λ bytes. bytes ++ more) (p .same)
-    ∙ append-assoc (image block) after more in
-    let h : Hands (volume ++ more) mark block = read-complete (volume ++ more) mark block small (p .base) (p .allowed) (after ++ more) d in
-    let here : foundAt volume mark ≡ found = found-there volume mark found e in
-    let same : blockAt (volume ++ more) offset ≡ found .block
-    = same-block block (volume ++ more) volume offset (after ++ more) after (p .allowed .keeps) d (p .same)
-    ∙ ap (λ (f : Found). f .block) here in
-    let number : mark .number ≡ found .number = sym (p .number) in
-    let next : foundAt (volume ++ more) mark .next ≡ found .next = h .next ∙ sym (p .next) in
-    record {
-      same-place = h .answer ∙ ap read.Found (λ i. record { block = same i; number = number i; next = next i });
-      same-reading = ap (shown (volume ++ more)) (sym same) ∙ h .same;
-    }

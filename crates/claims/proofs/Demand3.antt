@@ -23,7 +23,8 @@ use Rattle.claims.proofs.Appending.{header-sized}
 use Rattle.claims.proofs.Demand3Reading.{reading-gives, check-answers, demand-3-reading-holds}
 use Rattle.claims.proofs.Refused.{refused-volumes}
 use Rattle.claims.proofs.Sofar.{volume-more, Sofar, sofar-counted, sofar-keeps, none-due}
-use Rattle.claims.proofs.Appends.{Claimed, claimed, still-read}
+use Rattle.claims.proofs.Alike.{still-read}
+use Rattle.claims.proofs.Appends.{Claimed, claimed}
 use Rattle.claims.proofs.Starts.{start-stands}
 use Rattle.claims.proofs.Afresh.{fresh}
 

@@ -4,6 +4,7 @@ pub mod Reader
 pub mod Refused
 pub mod Demand3Reading
 pub mod Sofar
+pub mod Alike
 pub mod Appends
 pub mod AnyBookmark
 pub mod LastNumber

@@ -8,6 +8,7 @@ pub mod Demand3Reading
 pub mod Demand3
 pub mod Listed
 pub mod Chained
+pub mod Torn
 pub mod Digests
 pub mod TableLinks
 pub mod Samples

@@ -53,6 +53,10 @@ use Rattle.volume.proofs.TableLinks.{table-rules}
 use Rattle.chain.specs.Pairing.{follows, paired, pairAnswer}
 use Rattle.chain.specs.declared.Pairing.{Pairing}
 use Rattle.chain.specs.declared.Pairing.the-variants as Pairing
+use Rattle.repair.specs.Repairing.{repairAnswer}
+use Rattle.repair.specs.declared.RepairAnswer.{RepairAnswer}
+use Rattle.repair.specs.declared.RepairAnswer.the-variants as RepairAnswer
+use Rattle.repair.proofs.Refusals.{RefusedByNumber as RepairRefused, repair-refused-by-number}
 use Rattle.lookup.specs.inner.Answers.{positionAnswer, runsAnswer}
 use Rattle.lookup.specs.Lookup.{runsFault}
 use Rattle.lookup.proofs.Refusals.{RefusedByNumber, position-refused-by-number}
@@ -66,8 +70,9 @@ use Rattle.exchange.specs.Walking.{headingNumbers, blockNumbers, linkNum
 use Rattle.exchange.specs.Places.{placeNumbers, runCountNumbers}
 use Rattle.exchange.specs.Writing.{writtenNumbers}
 use Rattle.exchange.specs.Pairs.{pairNumbers}
+use Rattle.exchange.specs.Repairs.{repairNumbers}
 use Rattle.exchange.specs.inner.Back.{headerBack, blockWith, foundBack, readBack, checkBack, writtenBack}
-use Rattle.exchange.specs.inner.Back.{positionBack, runsBack, linkBack, extentBack, pairBack}
+use Rattle.exchange.specs.inner.Back.{positionBack, runsBack, linkBack, extentBack, pairBack, repairBack}
 use Rattle.exchange.specs.Crossing.{Crosses, FieldTold, LinksTold, none-left, told, TableTold, withoutBlocks, Crossing}
 use Rattle.digests.proofs.Crossing.{state-comes-back, state-kept, new-sized, lent-state-sized, bytes-come-back}
 
@@ -253,6 +258,13 @@ pair-refused first second = (
   λ e. ap (λ (answer : Pairing). pairNumbers answer .refusal) e,
 )
 
+-- Repair.
+
+repair-crosses : (answer : RepairAnswer) → RepairRefused answer → Crosses repairNumbers repairBack answer
+unfolding repairBack repairNumbers
+repair-crosses (RepairAnswer.Length n) h = refl
+repair-crosses (RepairAnswer.Refused refusal) h = rw (ne-eqb (refusal .number) 0 h)
+
 pub everything-crosses : Crossing
 everything-crosses =
     record {
@@ -276,4 +288,5 @@ everything-crosses =
       lent-state = λ lent b h. (lent-state-sized lent b h, bytes-come-back lent b h);
       pair = λ first second. pair-crosses (pairAnswer first second);
       pair-refused = pair-refused;
+      repair = λ volume. repair-crosses (repairAnswer volume) (repair-refused-by-number volume);
     }

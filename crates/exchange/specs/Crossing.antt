@@ -33,8 +33,9 @@ use Rattle.volume.specs.declared.ReadAnswer.the-variants as ReadAnswer
 use Rattle.chain.specs.Pairing.{pairAnswer}
 use Rattle.chain.specs.declared.Pairing.{Pairing}
 use Rattle.chain.specs.declared.Pairing.the-variants.{Follows, FirstRefused, SecondRefused, DoesNotFollow}
+use Rattle.repair.specs.Repairing.{repairAnswer}
 use Rattle.lookup.specs.inner.Answers.{positionAnswer, runsAnswer}
-use Rattle.exchange.specs.inner.Back.{headerBack, readBack, checkBack, writtenBack, positionBack, runsBack, linkBack, extentBack, pairBack}
+use Rattle.exchange.specs.inner.Back.{headerBack, readBack, checkBack, writtenBack, positionBack, runsBack, linkBack, extentBack, pairBack, repairBack}
 use Rattle.exchange.specs.Marks.{flagNumber, timedNumber, timeNumber, bookmarkOf}
 use Rattle.exchange.specs.Checking.{checkNumbers}
 use Rattle.exchange.specs.Walking.{headingNumbers, blockNumbers, linkNumbers, extentNumbers}
@@ -42,6 +43,7 @@ use Rattle.exchange.specs.Places.{placeNumbers, runCountNumbers}
 use Rattle.exchange.specs.Writing.{writtenNumbers}
 use Rattle.digests.specs.States.{SizedState, stateBytes, stateOf}
 use Rattle.exchange.specs.Pairs.{pairNumbers}
+use Rattle.exchange.specs.Repairs.{repairNumbers}
 use Rattle.exchange.specs.declared.BlockNumbers.{BlockNumbers}
 use Rattle.exchange.specs.declared.LinkNumbers.{LinkNumbers}
 
@@ -141,3 +143,5 @@ pub record Crossing : Type 0 where
   pub pair : (first second : List ℕ) → pairBack (pairNumbers (pairAnswer first second)) ≡ withoutBlocks (pairAnswer first second)
   -- whoever looks at the refusal alone is right: no volume's own refusal has the number 0
   pub pair-refused : (first second : List ℕ) → (pairNumbers (pairAnswer first second) .refusal ≡ 0) ↔ (pairAnswer first second ≡ Follows)
+  -- hdrfs_repair
+  pub repair : (volume : List ℕ) → Crosses repairNumbers repairBack (repairAnswer volume)

@@ -6,5 +6,6 @@ pub mod Places
 pub mod Sources
 pub mod Writing
 pub mod Pairs
+pub mod Repairs
 pub mod inner
 pub mod Crossing

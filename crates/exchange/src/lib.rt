@@ -1,17 +1,18 @@
 // The calls for programs in other languages, as include/hdrfs.h declares them: numbers and byte slices in, numbers out.
 //
-// Each turns the answer of a public call of `volume`, `links`, `extent`, `lookup`, `sha256` or `chain` into numbers, by a definition in
-// specs/. The structs below have the fields of those in the header file, in its order; wherever a refusal can come, it has three of
+// Each turns the answer of a public call of `volume`, `links`, `extent`, `lookup`, `sha256`, `chain` or `repair` into numbers, by a
+// definition in specs/. The structs below have the fields of those in the header file, in its order; wherever a refusal can come, it has three of
 // them. The calls of `digesting` have no struct: a digest goes to lent bytes, and so does a state, and the refusal is the answer.
 // `checking` has the check of a whole volume, `walking` the header, the blocks, the links and the extents one by one, `places`
-// positions and runs, `sources` the fetching of bytes, `writing` the writing of a header and the appends, `digesting` SHA-256, and
-// `pairs` the check of a pair of volumes.
+// positions and runs, `sources` the fetching of bytes, `writing` the writing of a header and the appends, `digesting` SHA-256,
+// `pairs` the check of a pair of volumes, and `repairs` the repair of a volume whose end is cut off.
 mod blocks;
 pub mod checking;
 pub mod digesting;
 mod marks;
 pub mod pairs;
 pub mod places;
+pub mod repairs;
 pub mod sources;
 pub mod walking;
 pub mod writing;
@@ -149,4 +150,13 @@ pub struct PairNumbers {
     pub start: u64,
     pub which: u64,
     pub offset: u64,
+}
+
+// What repairing a volume answers: hdrfs_repaired.
+#[repr(C)]
+pub struct RepairNumbers {
+    pub refusal: u64,
+    pub text: u64,
+    pub start: u64,
+    pub length: u64,
 }

@@ -26,6 +26,8 @@ use Rattle.volume.specs.declared.WriteAnswer.the-variants as WriteAnswer
 use Rattle.volume.specs.declared.Rejected.{Rejected}
 use Rattle.chain.specs.declared.Pairing.{Pairing}
 use Rattle.chain.specs.declared.Pairing.the-variants as Pairing
+use Rattle.repair.specs.declared.RepairAnswer.{RepairAnswer}
+use Rattle.repair.specs.declared.RepairAnswer.the-variants as RepairAnswer
 use Rattle.lookup.specs.declared.PositionAnswer.{PositionAnswer}
 use Rattle.lookup.specs.declared.PositionAnswer.the-variants as PositionAnswer
 use Rattle.lookup.specs.declared.RunsAnswer.{RunsAnswer}
@@ -40,6 +42,7 @@ use Rattle.exchange.specs.declared.PlaceNumbers.{PlaceNumbers}
 use Rattle.exchange.specs.declared.RunCountNumbers.{RunCountNumbers}
 use Rattle.exchange.specs.declared.MarkNumbers.{MarkNumbers}
 use Rattle.exchange.specs.declared.PairNumbers.{PairNumbers}
+use Rattle.exchange.specs.declared.RepairNumbers.{RepairNumbers}
 
 -- the refusal that three numbers tell, or where the first is 0 the other answer
 abbrev pub refusedOr : {Answer : Type 0} (number text start : ℕ) (refused : Refusal → Answer) (other : Answer) → Answer
@@ -152,3 +155,6 @@ pairBack n =
     cond (eqb (n .which) 1) (Pairing.FirstRefused (faultBack n))
     (cond (eqb (n .which) 2) (Pairing.SecondRefused (faultBack n))
     (cond (eqb (n .refusal) 0) Pairing.Follows Pairing.DoesNotFollow))
+
+unfoldable pub repairBack : RepairNumbers → RepairAnswer
+repairBack n = refusedOr (n .refusal) (n .text) (n .start) RepairAnswer.Refused (RepairAnswer.Length (n .length))
