@@ -2,11 +2,11 @@
 -- nothing.
 use Prim.Native.Nat.{ℕ, _+_, _-_, _≤_}
 use mathlib.Core.Path.{_≡_, refl, sym, ap, _∙_, subst}
-use mathlib.Core.List.{List, [], _∷_, _++_, append-assoc, append-nil}
+use mathlib.Core.List.{List, [], _∷_, append-assoc, append-nil}
 use native.Mathlib.Omega.{arith}
 use lib.ListN.{length, drop}
 use lib.Seq.{drop-drop}
-use Rattle.number.specs.Number.{Bytes, put}
+use Rattle.number.specs.Number.{put}
 use Rattle.number.proofs.Put.{length-put, drop-put}
 use Rattle.format.specs.Layout.{All}
 use Rattle.format.specs.Blocks.{Block, image}

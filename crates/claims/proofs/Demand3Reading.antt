@@ -29,7 +29,7 @@ use Rattle.claims.proofs.Walk.{afterAll, number-after, few-blocks, runs
 use Rattle.claims.proofs.Reader.{Read, calls-sound, calls-complete, check-complete, Told, told, calls-same}
 
 -- an accepted header has no fault, and it is answered with what stands in it
-header-given : (volume : List ℕ) (given : HeaderRead) → headerAnswer volume ≡ head.Accepted given
+pub header-given : (volume : List ℕ) (given : HeaderRead) → headerAnswer volume ≡ head.Accepted given
     → (headerFault volume ≡ 0) × (givenAt volume ≡ given)
 header-given volume given = go (header-answers volume)
   where

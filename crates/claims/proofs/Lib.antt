@@ -5,6 +5,11 @@ pub mod Refused
 pub mod Demand3Reading
 pub mod Sofar
 pub mod Alike
+pub mod Passing
+pub mod CutShort
+pub mod Torn
+pub mod Longest
+pub mod Repaired
 pub mod Appends
 pub mod AnyBookmark
 pub mod LastNumber

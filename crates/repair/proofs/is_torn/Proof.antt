@@ -1,9 +1,9 @@
 -- Each return is one of the tests of `isTorn`; the branches taken say what the others answer.
 use Prim.Native.Nat.{ℕ, zero, suc}
 use mathlib.Core.Path.{_≡_, refl}
-use mathlib.Core.Bool.{true, false, not, and-false}
+use mathlib.Core.Bool.{true, and-false}
 use native.Mathlib.Omega.{arith}
-use lib.Dec.{eqb, ltb, eqb·suc-zero}
+use lib.Dec.{eqb, eqb·suc-zero}
 use borrow.Author.Tests.{eq-eqb, ne-eqb, lt-ltb}
 use Rattle.repair.specs.Repairing.{isTorn}
 use Rattle.repair.proofs.is_torn.Statement.{statement}
