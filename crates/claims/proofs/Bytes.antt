@@ -50,7 +50,7 @@ small-bytes (byte ∷ bytes) e =
     let both = both-true (ltb byte 256) (all-small bytes) .0 e in
     bytes-cons byte bytes (ltb-true byte 256 (both .0)) (small-bytes bytes (both .1))
 
-header-bytes : (header : Header) → HeaderRules header → Bytes (headerImage header)
+pub header-bytes : (header : Header) → HeaderRules header → Bytes (headerImage header)
 unfolding headerImage headerFields all-small
 header-bytes header rules =
     let last : List ℕ = leBytes 8 (header .sequence) ++ header .previous in

@@ -37,6 +37,7 @@ pub mod WrongLookups
 pub mod WrongListing
 pub mod WrongPairs
 pub mod WrongDigests
+pub mod WrongRepairs
 pub mod Wrong
 pub mod TableLinks
 pub mod Digests

@@ -144,16 +144,19 @@ module _ (volume : List ℕ) (b : Bytes volume) where
       subst (LongestAccepted ours volume) same l
   length-longest n (refused e not-cut) f = let z : _≡_ {A = ℕ} 0 1 = cc in absurd (omega arith)
 
--- a torn append is cut in a block
+-- a torn append is found by the test
+pub torn-tested : (volume : List ℕ) (reading : Reading) (torn : List ℕ) → Bytes volume → TornAppend ours volume reading torn
+    → isTorn (sequenceOf torn) 2 (length volume) ≡ true
+torn-tested volume reading torn b t =
+    let ends = at-end volume reading torn b t in
+    ap₂ (λ bytes offset. isTorn (sequenceOf bytes) 2 offset) (t .same) (sym (ends .offset))
+    ∙ torn-there (left volume reading torn b t) _ (t .end) 2 (header-there volume reading torn b t) (passes-there volume reading torn b t)
+    ∙ ap not (ends .none-due)
+
 torn-repaired : (volume : List ℕ) (reading : Reading) (torn : List ℕ) → Bytes volume → TornAppend ours volume reading torn
     → repairAnswer torn ≡ repair.Length (length volume)
 unfolding repairAnswer repaired
-torn-repaired volume reading torn b t =
-    let ends = at-end volume reading torn b t in
-    let test = torn-there (left volume reading torn b t) _ (t .end) 2 (header-there volume reading torn b t) (passes-there volume reading torn b t) in
-    let found : isTorn (sequenceOf torn) 2 (length volume) ≡ true
-    = ap₂ (λ bytes offset. isTorn (sequenceOf bytes) 2 offset) (t .same) (sym (ends .offset)) ∙ test ∙ ap not (ends .none-due) in
-    rw (torn-refused volume reading torn b t, found)
+torn-repaired volume reading torn b t = rw (torn-refused volume reading torn b t, torn-tested volume reading torn b t)
 
 pub repair-holds : RepairClaim ours repairAnswer
 repair-holds =

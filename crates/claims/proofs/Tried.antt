@@ -2,7 +2,7 @@
 use Prim.Native.Nat.{ℕ, _+_, _^_, _≤_, _<_}
 use mathlib.Core.Bool.{false}
 use mathlib.Core.Path.{_≡_, refl, sym, ap, _∙_, subst}
-use mathlib.Core.List.{List, [], _∷_, _++_}
+use mathlib.Core.List.{List, [], _∷_, _++_, append-nil}
 use native.Mathlib.Omega.{arith}
 use lib.ListN.{length, replicate, length-append}
 use Rattle.number.specs.Number.{Bytes, leBytes}
@@ -97,6 +97,23 @@ data-appended buffer offset number time small base room limit few =
 
 not-table : (time : ℕ) → IsTable (bareData time) → ⊥
 not-table time e = let z : _≡_ {A = ℕ} 6 8 = ap idOf e in omega arith
+
+-- One of them.
+abbrev pub one : (time : ℕ) → Reading
+one time = record { header = first; blocks = bareData time ∷ [] }
+
+pub one-keeps : (time : ℕ) → time < 256 ^ 8 → Keeps (one time)
+one-keeps time small =
+    record { header = first-rules; each = (data-rules time small, tt); table = (not-table time, tt); times = (tt, tt) }
+
+pub one-bytes : (time : ℕ) → Bytes (volumeOf (one time))
+one-bytes time = volume-bytes (one time) first-rules ((λ i. omega arith), tt)
+
+pub one-long : (time : ℕ) → length (volumeOf (one time)) ≡ 101
+unfolding volumeOf images
+one-long time =
+    length-append (headerImage first) (image (bareData time) ++ [])
+    ∙ rw (length-header first first-rules, append-nil (image (bareData time)), data-long time)
 
 -- Two of them, the second not at a lower time.
 abbrev pub two : (time next : ℕ) → Reading

@@ -9,6 +9,7 @@ use Rattle.claims.proofs.WrongListing.{invents-listed-blocks}
 use Rattle.claims.proofs.WrongLookups.{holes-only, one-place-only, holes-where-refused}
 use Rattle.claims.proofs.WrongDigests.{feeds-nothing}
 use Rattle.claims.proofs.WrongPairs.{any-id-follows, any-hash-follows, no-volume-follows}
+use Rattle.claims.proofs.WrongRepairs.{tells-damage-where-bytes-are-missing, leaves-all-of-a-torn-volume, leaves-the-header-alone, drops-a-damaged-block, drops-a-cut-table}
 
 pub wrong-are-shut-out : WrongAreShutOut
 wrong-are-shut-out =
@@ -37,4 +38,9 @@ wrong-are-shut-out =
       any-hash-follows = any-hash-follows;
       no-volume-follows = no-volume-follows;
       feeds-nothing = feeds-nothing;
+      tells-damage-where-bytes-are-missing = tells-damage-where-bytes-are-missing;
+      leaves-all-of-a-torn-volume = leaves-all-of-a-torn-volume;
+      leaves-the-header-alone = leaves-the-header-alone;
+      drops-a-damaged-block = drops-a-damaged-block;
+      drops-a-cut-table = drops-a-cut-table;
     }

@@ -1,10 +1,11 @@
 -- Libraries that are wrong, each in one way, and that a claim is false of. The first are the empty programs that a claim has to shut
 -- out: they answer, but nothing comes of it. The next are right wherever a claim used to look, and wrong beside it. Two go by another
--- rule for times, three count blocks in another way, four tell the wrong text or place, and three go by another rule for pairs.
+-- rule for times, three count blocks in another way, four tell the wrong text or place, three go by another rule for pairs, one
+-- takes a torn append for a damaged one, and four repair other volumes or leave another length.
 --
 -- What a wrong library answers is what ours does, but for the calls named. Proved in proofs/Wrong.antt.
 use Prim.Native.Nat.{ℕ, suc, _+_, _-_}
-use mathlib.Core.Bool.{Bool, true, false, cond, _&&_}
+use mathlib.Core.Bool.{Bool, true, false, not, cond, _&&_, _||_}
 use mathlib.Core.Option.{Option, none, some}
 use mathlib.Core.List.{List, [], _++_}
 use lib.Dec.{eqb}
@@ -40,6 +41,9 @@ use Rattle.volume.specs.declared.WriteAnswer.{WriteAnswer}
 use Rattle.volume.specs.declared.WriteAnswer.the-variants as write
 use Rattle.chain.specs.Pairing.{paired}
 use Rattle.chain.specs.declared.Pairing.{Pairing}
+use Rattle.repair.specs.Repairing.{inHeader, inTable, isTorn}
+use Rattle.repair.specs.declared.RepairAnswer.{RepairAnswer}
+use Rattle.repair.specs.declared.RepairAnswer.the-variants as repair
 use Rattle.lookup.specs.declared.PositionAnswer.{PositionAnswer}
 use Rattle.lookup.specs.declared.PositionAnswer.the-variants as place
 use Rattle.lookup.specs.declared.RunsAnswer.the-variants as runs
@@ -53,6 +57,7 @@ use Rattle.claims.specs.Demand3.{Demand3}
 use Rattle.claims.specs.Listed.{Listed}
 use Rattle.claims.specs.Chained.{PairClaim}
 use Rattle.claims.specs.Digests.{DigestClaim}
+use Rattle.claims.specs.Torn.{TornClaim, RepairClaim}
 
 -- ours, but for these calls
 abbrev pub answering :
@@ -310,6 +315,53 @@ noPair first second = false
 abbrev pub feedsNothing : Digest → (part : List ℕ) → Fed
 feedsNothing state part = record { refusal = 0; state = state }
 
+-- Wrong about torn appends: where bytes are missing, a checksum is told to be wrong.
+abbrev pub damagedForCut : Verdict → Verdict
+damagedForCut (verdict.Accepted accepted) = verdict.Accepted accepted
+damagedForCut (verdict.Refused rejected) =
+    verdict.Refused (record {
+      refusal = cond (eqb (rejected .refusal .number) 2) (refusalOf 5) (rejected .refusal);
+      offset = rejected .offset;
+      blocks = rejected .blocks;
+    })
+
+abbrev pub tellsDamage : Library
+tellsDamage = checking (λ volume. damagedForCut (ours .check volume))
+
+-- Wrong about repairing: another test for what is torn, or another length that is left.
+abbrev pub repairing :
+    (test : (sequence number offset : ℕ) → Bool)
+    (left : (volume : List ℕ) (offset : ℕ) → ℕ)
+    (volume : List ℕ)
+    → Verdict
+    → RepairAnswer
+repairing test left volume (verdict.Accepted accepted) = repair.Length (length volume)
+repairing test left volume (verdict.Refused rejected) =
+    cond (test (sequenceOf volume) (rejected .refusal .number) (rejected .offset)) (repair.Length (left volume (rejected .offset)))
+    (repair.Refused (rejected .refusal))
+
+-- one leaves all of a torn volume
+abbrev pub leavesAll : (volume : List ℕ) → RepairAnswer
+leavesAll volume = repairing isTorn (λ whole offset. length whole) volume (ours .check volume)
+
+-- one leaves the header alone
+abbrev pub leavesHeader : (volume : List ℕ) → RepairAnswer
+leavesHeader volume = repairing isTorn (λ whole offset. 80) volume (ours .check volume)
+
+-- one drops a block whose checksum is wrong, too
+abbrev pub tornOrDamaged : (sequence number offset : ℕ) → Bool
+tornOrDamaged sequence number offset = (eqb number 2 || eqb number 5) && not (inHeader offset || inTable sequence offset)
+
+abbrev pub dropsDamaged : (volume : List ℕ) → RepairAnswer
+dropsDamaged volume = repairing tornOrDamaged (λ whole offset. offset) volume (ours .check volume)
+
+-- one drops a table that is cut
+abbrev pub behindHeader : (sequence number offset : ℕ) → Bool
+behindHeader sequence number offset = eqb number 2 && not (inHeader offset)
+
+abbrev pub dropsTable : (volume : List ℕ) → RepairAnswer
+dropsTable volume = repairing behindHeader (λ whole offset. offset) volume (ours .check volume)
+
 -- No claim holds of them.
 pub record WrongAreShutOut : Type 0 where
   pub refuses-all : Demand3 refusesAll → ⊥
@@ -336,3 +388,8 @@ pub record WrongAreShutOut : Type 0 where
   pub any-hash-follows : PairClaim ours (pairing anyHash) → ⊥
   pub no-volume-follows : PairClaim ours (pairing noPair) → ⊥
   pub feeds-nothing : DigestClaim new feedsNothing finishAnswer wholeAnswer → ⊥
+  pub tells-damage-where-bytes-are-missing : TornClaim tellsDamage → ⊥
+  pub leaves-all-of-a-torn-volume : RepairClaim ours leavesAll → ⊥
+  pub leaves-the-header-alone : RepairClaim ours leavesHeader → ⊥
+  pub drops-a-damaged-block : RepairClaim ours dropsDamaged → ⊥
+  pub drops-a-cut-table : RepairClaim ours dropsTable → ⊥
