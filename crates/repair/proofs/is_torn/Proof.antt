@@ -22,8 +22,9 @@ elsewhere sequence offset a b = rw (ne-eqb offset 0 a, ne-eqb offset 80 b, and-f
 
 returns : tie.Need-returns
 unfolding isTorn
-returns c = rw (ne-eqb _ 2 (c .if1 .taken))
+returns c = rw (ne-eqb (c .before .args .number) 2 (λ e. omega arith))
 
+-- behind the first branch the number is 2
 returns-2 : tie.Need-returns-2
 unfolding isTorn
 returns-2 c =
@@ -32,14 +33,15 @@ returns-2 c =
 
 returns-3 : tie.Need-returns-3
 returns-3 c =
-    let number : c .before .before .before .args .number ≡ 2 = omega arith in
-    rw (number, c .if3 .taken) (first-volume (c .before .before .before .args .sequence))
+    let args = c .before .before .before .args in
+    let number : args .number ≡ 2 = omega arith in
+    rw (number, c .if3 .taken) (first-volume (args .sequence))
 
 returns-4 : tie.Need-returns-4
 returns-4 c =
     let args = c .before .before .before .args in
     let number : args .number ≡ 2 = omega arith in
-    rw number (elsewhere (args .sequence) (args .offset) (c .before .if2 .left) (c .if3 .left))
+    rw number (elsewhere (args .sequence) (args .offset) (λ e. omega arith) (λ e. omega arith))
 
 pub is-torn-spec : {M : Type 1} → statement M
 is-torn-spec = tie.close (tie.spec returns returns-2 returns-3 returns-4)
