@@ -1,5 +1,10 @@
-//! Inputs for benchmarks. All are accepted but those with a name at fault, and all volumes have
-//! 16 MiB but that of [`copies`] and what is asked of [`data_blocks`].
+//! Inputs for benchmarks. All are accepted but those with a name at fault and those to repair, and
+//! all volumes have 16 MiB but that of [`copies`], the one to repair that is cut, and what is asked
+//! of [`data_blocks`].
+
+mod torn;
+
+pub use torn::{torn_inputs, Torn};
 
 use std::ops::Range;
 

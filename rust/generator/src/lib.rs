@@ -22,6 +22,7 @@ pub mod rng;
 pub mod text;
 pub mod texts;
 pub mod time;
+pub mod torn;
 
 use std::fmt::Write;
 

@@ -2,9 +2,9 @@
 
 use generator::bench::{
     archive, archive_extent, archive_volume, copies, data_blocks, inodes, inputs, last_names,
-    lengths, neighbours, Order, COPIED, COPIES, COPIES_OFFSET, SHORT,
+    lengths, neighbours, torn_inputs, Order, COPIED, COPIES, COPIES_OFFSET, SHORT,
 };
-use independent::{check, lookup, pair, read_header, run_count, sha256};
+use independent::{check, lookup, pair, read_header, repair, run_count, sha256};
 use independent::{Pair, Place, Refusal, Verdict, VOLUME_LIMIT};
 
 #[test]
@@ -79,6 +79,31 @@ fn only_the_last_name_is_at_fault() {
     // A data block stands before the links, and another one behind the table.
     let expected = [(167_772, 167_771, 0, 68), (2, 0, 4_095, 4_076)];
     assert_eq!(names, expected);
+}
+
+/// Both end too early: one behind all blocks but the last, one at once.
+#[test]
+fn torn_volumes_are_cut_at_the_end_or_damaged_at_the_beginning() {
+    let mut told = Vec::new();
+    for input in torn_inputs() {
+        let refusal = Refusal::of(2);
+        let Verdict::Refused {
+            refusal: first,
+            offset,
+            blocks,
+        } = check(&input.volume)
+        else {
+            panic!("{} is accepted", input.name);
+        };
+        assert_eq!((first, offset), (refusal, input.kept), "{}", input.name);
+        assert_eq!(repair(&input.volume), Ok(input.kept), "{}", input.name);
+        told.push((input.volume.len(), input.kept, blocks));
+    }
+    // Blocks of 1,000 bytes, and one for the last 136.
+    let all_but_one = 80 + 1_000 * 16_777;
+    let cut = all_but_one as usize + 68;
+    let expected = [(cut, all_but_one, 16_777), (VOLUME_LIMIT, 80, 0)];
+    assert_eq!(told, expected);
 }
 
 #[test]

@@ -3,6 +3,7 @@
 
 pub mod textbook;
 pub mod texts;
+pub mod torn;
 
 use std::fs;
 use std::path::PathBuf;
