@@ -63,6 +63,21 @@ uint64_t hdrfs_check_offset(const uint8_t *volume, size_t volume_len);
 uint64_t hdrfs_check_timed(const uint8_t *volume, size_t volume_len);
 uint64_t hdrfs_check_time(const uint8_t *volume, size_t volume_len);
 
+/* ---- How much is left of a volume whose end was cut off within a block, as when power is lost during an append: the length of its
+ * longest beginning that hdrfs_check accepts. That is all of an accepted volume. Where the first fault is a 2 at a block other than
+ * the link table, it ends where that block begins. Any other fault is refused with its number, a 2 in the header or in the table
+ * too. Nothing is changed: keep the bytes, for a damaged length in the middle of a volume gives a 2 as well, and sound blocks behind
+ * it are not in the beginning. */
+
+typedef struct {
+    uint64_t refusal;
+    uint64_t text;   /* of a 10, as in hdrfs_checked */
+    uint64_t start;
+    uint64_t length; /* of the beginning */
+} hdrfs_repaired;
+
+hdrfs_repaired hdrfs_repair(const uint8_t *volume, size_t volume_len);
+
 /* ---- Where a position of a file is stored. `offset` is that of an inode block in `volume`. */
 
 typedef struct {

@@ -2,14 +2,16 @@
 //! archives.
 //!
 //! All that is decided about bytes is decided in a proved library, which this crate links, but for
-//! [`ChainEntry::follows`] and the reason in a [`Mismatch`], which compare what it answers. Reading a
-//! single volume copies nothing: names, payloads and stored bytes are parts of the volumes that the
-//! caller lends.
+//! [`ChainEntry::follows`] and the reason in a [`Mismatch`], which compare what it answers, and
+//! [`Volume::whole_blocks_from`], which asks it only where a block can begin. Reading a single volume
+//! copies nothing: names, payloads and stored bytes are parts of the volumes that the caller lends.
 //!
 //! - [`Archive`] is a set of volumes: it finds the current inodes and their names, and reads their
 //!   bytes.
 //! - [`Volume::check`] checks a whole volume, [`Volume::blocks`] walks its blocks; a [`LinkTable`]
 //!   is walked link by link.
+//! - [`Volume::repair`] says how much of a volume is left that was cut short during an append, and
+//!   [`Volume::whole_blocks_from`] how many sound blocks stand behind that.
 //! - [`File`] says where the bytes of a regular file are stored: at a position, or in runs.
 //! - [`fetch`] hands out stored bytes.
 //! - [`Volume::follows`] says whether a volume is the next one after another, and of many volumes
@@ -67,6 +69,7 @@ mod runs;
 pub mod sys;
 mod volume;
 mod walk;
+mod whole_blocks;
 mod writer;
 
 pub use archive::{
@@ -89,6 +92,7 @@ pub use links::{Link, LinkTable, Links};
 pub use refusal::{Refusal, Rejected};
 pub use runs::{Run, Runs};
 pub use volume::{Checked, Heading, Volume, MAX_VOLUME_LEN};
+pub use whole_blocks::WholeBlocks;
 pub use writer::Writer;
 
 /// The example of the repository's README, compiled with the documentation's.

@@ -256,7 +256,7 @@ macro_rules! answers {
     )*};
 }
 
-answers! { Block Checked Heading Place RunCount Source Written }
+answers! { Block Checked Heading Place Repaired RunCount Source Written }
 
 /// The calls that take digests answer the number alone.
 impl Answer for u64 {

@@ -9,7 +9,8 @@ mod chain;
 mod writing;
 
 pub use answers::{
-    Block, Checked, ExtentEntry, Heading, LinkEntry, Paired, Place, RunCount, Source, Written,
+    Block, Checked, ExtentEntry, Heading, LinkEntry, Paired, Place, Repaired, RunCount, Source,
+    Written,
 };
 pub use chain::{pair, sha256, sha256_feed, sha256_finish, sha256_start};
 pub use writing::{
@@ -44,7 +45,8 @@ pub const PAST_END: u64 = 2;
 /// The declarations of the header file, in its order.
 mod raw {
     use super::{
-        Block, Checked, ExtentEntry, Heading, LinkEntry, Paired, Place, RunCount, Source, Written,
+        Block, Checked, ExtentEntry, Heading, LinkEntry, Paired, Place, Repaired, RunCount, Source,
+        Written,
     };
 
     type Bytes = *const u8;
@@ -59,6 +61,7 @@ mod raw {
         pub fn hdrfs_check_offset(volume: Bytes, volume_len: usize) -> u64;
         pub fn hdrfs_check_timed(volume: Bytes, volume_len: usize) -> u64;
         pub fn hdrfs_check_time(volume: Bytes, volume_len: usize) -> u64;
+        pub fn hdrfs_repair(volume: Bytes, volume_len: usize) -> Repaired;
         pub fn hdrfs_lookup(
             volume: Bytes,
             volume_len: usize,
@@ -381,6 +384,19 @@ on_a_volume! {
     /// assert_eq!(hdrfs::sys::check_time(&[]), 0);
     /// ```
     check_time calls hdrfs_check_time -> u64;
+
+    /// How long the longest accepted beginning is: of an accepted volume all of it, and of one whose
+    /// bytes end too early in a block other than the link table what stands before that block.
+    ///
+    /// ```
+    /// # std::env::set_current_dir("../../crates/samples/data")?;
+    /// let volume = std::fs::read("v.vol")?;
+    /// assert_eq!(hdrfs::sys::repair(&volume).length, 104);
+    /// assert_eq!(hdrfs::sys::repair(&volume[..103]).length, 80);
+    /// assert_eq!(hdrfs::sys::repair(&volume[..79]).refusal, 2);
+    /// # Ok::<(), std::io::Error>(())
+    /// ```
+    repair calls hdrfs_repair -> Repaired;
 
     /// The header alone.
     ///

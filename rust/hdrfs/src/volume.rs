@@ -1,11 +1,12 @@
-//! Whole volumes: the check, the header, the beginning of a walk, the digest, and the one behind.
+//! Whole volumes: the check, the longest accepted beginning, the header, the beginning of a walk, the
+//! digest, and the one behind.
 
 use std::fmt;
 
 use crate::blocks::part;
 use crate::bookmark::Numbers;
-use crate::{chain, sys};
-use crate::{Blocks, Bookmark, Digest, File, Lengths, PairError, Refusal, Rejected};
+use crate::{chain, sys, whole_blocks};
+use crate::{Blocks, Bookmark, Digest, File, Lengths, PairError, Refusal, Rejected, WholeBlocks};
 
 /// The most bytes that a volume may have. Whoever reads a file needs to read only one more to have
 /// it refused.
@@ -38,9 +39,8 @@ impl Volume {
     /// ```
     pub fn check(volume: &[u8]) -> Result<Checked<'_>, Rejected> {
         let answer = sys::check(volume);
-        // The header stands at 0, and no block does.
-        let block = (answer.offset != 0).then_some(answer.blocks);
-        Refusal::unless_accepted(&answer, answer.offset, block).map_err(Rejected::new)?;
+        let (offset, block) = place(&answer);
+        Refusal::unless_accepted(&answer, offset, block).map_err(Rejected::new)?;
         Ok(Checked {
             volume,
             sequence: answer.sequence,
@@ -52,6 +52,77 @@ impl Volume {
                 number: answer.blocks,
             }),
         })
+    }
+
+    /// How many bytes the longest accepted beginning of a volume has: what there is to go on with
+    /// where the power was lost during an append.
+    ///
+    /// Of an accepted volume it is all bytes. Where the first fault is
+    /// [`ENDS_EARLY`](Refusal::ENDS_EARLY) at a block other than the link table, it ends where that
+    /// block begins. A fault in the header or in the table, and any other first fault, is refused as
+    /// [`Volume::check`] refuses it.
+    ///
+    /// - A damaged length field in the middle of a volume also gives
+    ///   [`ENDS_EARLY`](Refusal::ENDS_EARLY), if the block would reach beyond the end by it. Then the
+    ///   beginning lacks the sound blocks behind that one, which
+    ///   [`Volume::whole_blocks_from`] counts: keep the bytes.
+    /// - A tail of zeros, as some file systems leave it when the power is lost, gives
+    ///   [`UNKNOWN_BLOCK`](Refusal::UNKNOWN_BLOCK), 7, and is refused.
+    ///
+    /// ```
+    /// use hdrfs::Volume;
+    /// # std::env::set_current_dir("../../crates/samples/data")?;
+    ///
+    /// let volume = std::fs::read("v.vol")?;
+    /// let torn = [&volume[..], &volume[80..99]].concat();
+    /// assert_eq!(Volume::repair(&torn)?, volume.len());
+    /// assert_eq!(Volume::repair(&volume)?, volume.len());
+    ///
+    /// let zeros = [&volume[..], &[0; 24]].concat();
+    /// let refusal = Volume::repair(&zeros).unwrap_err();
+    /// assert_eq!(refusal.to_string(), "refused 7 at 104 (block 1): unknown block ID");
+    /// # Ok::<(), Box<dyn std::error::Error>>(())
+    /// ```
+    pub fn repair(volume: &[u8]) -> Result<usize, Refusal> {
+        let answer = sys::repair(volume);
+        // The answer does not say where the fault is. It is the one that the check finds, which is
+        // asked only where there is one to tell: a volume that is not refused is read once.
+        let (offset, block) = match answer.refusal {
+            0 => (0, None),
+            _ => place(&sys::check(volume)),
+        };
+        Refusal::unless_accepted(&answer, offset, block)?;
+        Ok(answer.length as usize)
+    }
+
+    /// Counts the whole blocks that begin at `offset` or anywhere behind it. Behind the place where a
+    /// volume ends too early there are none if an append was cut short, and some if the length field
+    /// of a block was damaged.
+    ///
+    /// Each is taken by itself. It need not begin where another ends, nor at the right time. So
+    /// blocks inside the payload of a block that is cut short are counted too, as there are where a
+    /// file that is a volume itself was stored: nothing tells them from others. No link table is
+    /// counted, since one stands nowhere but behind a header.
+    ///
+    /// Every place where a block could begin by its length takes a checksum over that length. When
+    /// these lengths come to 1 GiB the search ends, and then there may be more: so no volume, however
+    /// hostile, takes long.
+    ///
+    /// ```
+    /// use hdrfs::Volume;
+    /// # std::env::set_current_dir("../../crates/samples/data")?;
+    ///
+    /// let volume = std::fs::read("v.vol")?;
+    /// let mut damaged = [&volume[..], &volume[80..], &volume[80..]].concat();
+    /// damaged[89] = 200; // The length of the payload of the first block.
+    /// let length = Volume::repair(&damaged)?;
+    /// assert_eq!(length, 80);
+    /// let found = Volume::whole_blocks_from(&damaged, length);
+    /// assert_eq!((found.count, found.may_be_more), (2, false));
+    /// # Ok::<(), Box<dyn std::error::Error>>(())
+    /// ```
+    pub fn whole_blocks_from(volume: &[u8], offset: usize) -> WholeBlocks {
+        whole_blocks::search(volume, offset)
     }
 
     /// Reads the header alone.
@@ -142,6 +213,13 @@ impl Volume {
     pub fn follows(first: &[u8], second: &[u8]) -> Result<(), PairError> {
         chain::follows(first, second)
     }
+}
+
+/// Where the fault is that a check answers: its offset, and the number of the block.
+fn place(answer: &sys::Checked) -> (u64, Option<u64>) {
+    // The header stands at 0, and no block does.
+    let block = (answer.offset != 0).then_some(answer.blocks);
+    (answer.offset, block)
 }
 
 /// What a header says.

@@ -29,6 +29,25 @@ pub struct Checked {
     pub time: u64,
 }
 
+/// How long the longest accepted beginning of a volume is.
+///
+/// ```
+/// let nothing = hdrfs::sys::repair(&[]);
+/// assert_eq!(nothing, hdrfs::sys::Repaired { refusal: 2, ..Default::default() });
+/// ```
+#[repr(C)]
+#[derive(Clone, Copy, Debug, Default, PartialEq, Eq)]
+pub struct Repaired {
+    /// 0: not refused; else that of the volume's first fault, which cannot be cut away.
+    pub refusal: u64,
+    /// Beside refusal 10, which text of the block is not UTF-8, counted from 0; else 0.
+    pub text: u64,
+    /// Beside refusal 10, where in that text the first ill-formed sequence begins; else 0.
+    pub start: u64,
+    /// How many bytes it has.
+    pub length: u64,
+}
+
 /// What stands at a position of a file.
 ///
 /// ```
