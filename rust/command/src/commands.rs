@@ -11,6 +11,7 @@ use crate::failure::{Failure, Status};
 use crate::help;
 use crate::inodes::Inodes;
 use crate::list::List;
+use crate::repair::Repair;
 use crate::runs::Runs;
 use crate::text::shown;
 use crate::words::Words;
@@ -25,7 +26,7 @@ pub struct Command {
     pub parse: fn(&mut Words) -> Result<Box<dyn Request>, String>,
 }
 
-pub const COMMANDS: [Command; 7] = [
+pub const COMMANDS: [Command; 8] = [
     Command {
         name: "check",
         summary: help::CHECK_SUMMARY,
@@ -67,6 +68,12 @@ pub const COMMANDS: [Command; 7] = [
         summary: help::EXTRACT_SUMMARY,
         help: help::EXTRACT,
         parse: parse::<Extract>,
+    },
+    Command {
+        name: "repair",
+        summary: help::REPAIR_SUMMARY,
+        help: help::REPAIR,
+        parse: parse::<Repair>,
     },
 ];
 

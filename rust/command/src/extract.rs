@@ -53,11 +53,7 @@ impl Request for Extract {
         match self.extract(&files, to_output) {
             Ok(report) if json => output::say(report.line(json).trim_end()),
             Ok(_) => (),
-            Err(failure) if json && failure.status() != Status::Unheard => {
-                output::say(failure.json().trim_end());
-                return Ok(failure.status());
-            }
-            Err(failure) => return Err(failure),
+            Err(failure) => return output::fail_beside(failure, json),
         }
         Ok(Status::Accepted)
     }

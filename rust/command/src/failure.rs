@@ -60,6 +60,16 @@ impl From<ArchiveError> for Failure {
 }
 
 impl Failure {
+    /// A whole volume that is refused. All blocks before the one at fault were accepted.
+    pub fn refused(path: &Path, refusal: Refusal, volume: &[u8]) -> Failure {
+        Failure::Volume(ArchiveError::Refused {
+            path: path.to_path_buf(),
+            refusal,
+            blocks: Some(refusal.block.unwrap_or(0)),
+            bad_text: refusal.bad_text(volume),
+        })
+    }
+
     pub fn status(&self) -> Status {
         match self {
             Failure::Volume(ArchiveError::Io { .. }) => Status::WrongUse,

@@ -240,3 +240,46 @@ the volume with the highest sequence number that has it, the last block.
 Exit status: 0 written; 1 refused; 2 wrong use, or a file that cannot be read
 or written.
 ";
+
+pub const REPAIR_SUMMARY: &str = "\
+\x20 hdrfs repair FILE -o OUT                 the sound beginning of a cut volume
+";
+
+pub const REPAIR: &str = "\
+hdrfs repair FILE -o OUT [--cut] [--json]
+
+Copies the longest sound beginning of a volume that was cut short, as when the
+power is lost during an append: all that stands before the block that is not
+whole. A sound volume is copied whole. Says how much is dropped, from where on,
+and how many whole blocks are among it:
+
+  OUT: the first 104 of 127 bytes of FILE, 1 block; dropped 23 bytes from offset
+  104 (block 1), which is cut short; no whole block among them
+
+FILE is one volume, and is never changed. Keep it: what is dropped is nowhere
+else. Only a 2 of hdrfs check is repaired, bytes that end too early, and not in
+the header or the link table. All else is refused as there.
+
+- A tail of zeros gives 7, and is not repaired.
+- A damaged length field in the middle of a volume gives 2 too. Then the sound
+  blocks behind it are dropped with it. Whole blocks among what is dropped are a
+  sign of that, or they stand inside the block that is cut short.
+
+OUT appears, or is replaced, only once all is written; where anything is
+refused, fails or is interrupted, it stays as it was. A link is followed. OUT
+can be read by no more people than FILE, nor than before.
+
+  -o OUT, --output OUT    the file to write; not FILE. With - the volume goes to
+                          standard output, and what is said to standard error
+  --cut                   drop more than 65,536 bytes too; without it nothing is
+                          written then
+  --json                  an object: file, out, length, blocks (that are left),
+                          dropped (bytes), whole (blocks among them), at_least
+                          (true if there may be more of these, since the search
+                          for them ended early, else false), and if something
+                          is dropped offset and block, those of the cut block;
+                          or what hdrfs check prints of a refused volume
+
+Exit status: 0 written; 1 refused; 2 wrong use, --cut is missing, or a file that
+cannot be read or written.
+";

@@ -2,6 +2,7 @@
 
 use std::fs::{self, File};
 use std::io::{self, Read};
+use std::os::unix::fs::MetadataExt;
 use std::path::{Path, PathBuf};
 
 use hdrfs::{ArchiveError, MAX_VOLUME_LEN};
@@ -48,6 +49,12 @@ pub fn read(path: &Path) -> Result<Vec<u8>, Failure> {
     let read = File::open(path).and_then(|file| file.take(enough).read_to_end(&mut buffer));
     read.map_err(|error| unread(path, error))?;
     Ok(buffer)
+}
+
+/// The mode of a file, which says who may read and write it.
+pub fn mode(path: &Path) -> Result<u32, Failure> {
+    let about = fs::metadata(path).map_err(|error| unread(path, error))?;
+    Ok(about.mode())
 }
 
 fn unread(path: &Path, error: io::Error) -> Failure {

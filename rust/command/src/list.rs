@@ -2,7 +2,7 @@
 
 use std::path::{Path, PathBuf};
 
-use hdrfs::{ArchiveError, BadText, Block, Bookmark, Heading, Refusal, Volume};
+use hdrfs::{BadText, Block, Bookmark, Heading, Refusal, Volume};
 
 use crate::commands::Request;
 use crate::failure::{Failure, Status};
@@ -24,7 +24,7 @@ impl Request for List {
     fn parse(words: &mut Words) -> Result<List, String> {
         Ok(List {
             long: words.flag("--long"),
-            file: words.file()?,
+            file: words.file("list")?,
         })
     }
 
@@ -57,12 +57,11 @@ impl List {
             match block {
                 Ok(block) => lines.put(&self.block_line(&block, json))?,
                 Err(refusal) => {
-                    let bad_text = refusal.bad_text(volume);
                     if !json {
-                        lines.put(&self.refused_line(&refusal, bad_text))?;
+                        lines.put(&self.refused_line(&refusal, refusal.bad_text(volume)))?;
                     }
                     lines.flush()?;
-                    return Err(refused(path, refusal, bad_text));
+                    return Err(Failure::refused(path, refusal, volume));
                 }
             }
         }
@@ -111,17 +110,6 @@ impl List {
         };
         format!("refused {number} at {offset}{more}\n")
     }
-}
-
-fn refused(path: &Path, refusal: Refusal, bad_text: Option<BadText>) -> Failure {
-    ArchiveError::Refused {
-        path: path.to_path_buf(),
-        refusal,
-        // The walk began at the header: all blocks before the one at fault were listed.
-        blocks: Some(refusal.block.unwrap_or(0)),
-        bad_text,
-    }
-    .into()
 }
 
 const HEADING: &str = "offset id length\n";

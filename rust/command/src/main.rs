@@ -1,4 +1,4 @@
-//! The command `hdrfs`: checks, lists and extracts from HDRFS volumes.
+//! The command `hdrfs`: checks, lists, extracts from and repairs HDRFS volumes.
 //!
 //! It opens files, calls the library and prints. Whatever is decided about the bytes of a volume,
 //! the library decides.
@@ -19,6 +19,7 @@ mod list;
 mod long;
 mod output;
 mod progress;
+mod repair;
 mod runs;
 mod set;
 #[allow(unsafe_code)]

@@ -44,3 +44,13 @@ pub fn print_bytes(bytes: &[u8]) -> Result<Status, Failure> {
 pub fn say(what: impl fmt::Display) {
     let _ = writeln!(io::stderr(), "{what}");
 }
+
+/// Says why nothing came of it where standard output is for content. Then machines, too, are told on
+/// standard error.
+pub fn fail_beside(failure: Failure, json: bool) -> Result<Status, Failure> {
+    if !json || failure.status() == Status::Unheard {
+        return Err(failure);
+    }
+    say(failure.json().trim_end());
+    Ok(failure.status())
+}

@@ -1,4 +1,4 @@
-//! The file that `extract -o` writes: where it is, and what may not be replaced.
+//! The file that `-o` names: where it is, and what may not be replaced.
 
 use std::ffi::OsStr;
 use std::fs::{self, File, FileType, Metadata};
@@ -49,10 +49,19 @@ impl Target {
             Err(error) => return Err(unwritten(error)),
             Ok(own) => existing(out, &own).map_err(refused),
         }
-        .and_then(|target| match is_one_of(&target.path, volumes) {
+        .and_then(|target| match target.is_one_of(volumes) {
             true => Err(refused("is one of the volumes to read".to_string())),
             false => Ok(target),
         })
+    }
+
+    /// Whether it is one of these files, by whatever name: one that has two would lose one of them.
+    fn is_one_of(&self, files: &[PathBuf]) -> bool {
+        let is_same = |before: &Before, path: &PathBuf| {
+            fs::metadata(path).is_ok_and(|about| before.is_same(&about))
+        };
+        let before = self.before.as_ref();
+        before.is_some_and(|before| files.iter().any(|path| is_same(before, path)))
     }
 
     /// Whether the file is still the one that was looked at.
@@ -123,11 +132,6 @@ fn existing(out: &Path, own: &Metadata) -> Result<Target, String> {
         path,
         before: Some(before),
     })
-}
-
-fn is_one_of(target: &Path, volumes: &[PathBuf]) -> bool {
-    let is_target = |path: &PathBuf| fs::canonicalize(path).is_ok_and(|path| path == target);
-    volumes.iter().any(is_target)
 }
 
 fn standard_output() -> Option<Metadata> {

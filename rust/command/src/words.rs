@@ -26,12 +26,13 @@ const fn opt(long: &'static str, short: Option<&'static str>, valued: bool) -> O
 }
 
 /// All options of all commands.
-const OPTIONS: [Opt; 10] = [
+const OPTIONS: [Opt; 11] = [
     opt("--help", Some("-h"), false),
     opt("--version", Some("-V"), false),
     opt("--json", None, false),
     opt("--long", Some("-l"), false),
     opt("--chain", None, false),
+    opt("--cut", None, false),
     opt("--jobs", Some("-j"), true),
     opt("--inode", None, true),
     opt("--from", None, true),
@@ -162,12 +163,12 @@ impl Words {
         Ok(self.plain.drain(..).map(PathBuf::from).collect())
     }
 
-    /// The only plain word that is left.
-    pub fn file(&mut self) -> Result<PathBuf, String> {
+    /// The only plain word that is left for a command.
+    pub fn file(&mut self, command: &str) -> Result<PathBuf, String> {
         let mut files = self.files()?;
         match (files.pop(), files.is_empty()) {
             (Some(file), true) => Ok(file),
-            _ => Err("list takes one volume".to_string()),
+            _ => Err(format!("{command} takes one volume")),
         }
     }
 }

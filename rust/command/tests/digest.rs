@@ -4,26 +4,15 @@ mod support;
 
 use std::ffi::{OsStr, OsString};
 use std::fs::File;
-use std::io::Write;
 use std::os::unix::ffi::{OsStrExt, OsStringExt};
-use std::process::{Command, Output, Stdio};
+use std::process::{Command, Output};
 
 use support::json::object;
 use support::volumes::small_volume;
-use support::Folder;
+use support::{fed, Folder};
 
 const ABC: &str = "ba7816bf8f01cfea414140de5dae2223b00361a396177a9cb410ff61f20015ad";
 const EMPTY: &str = "e3b0c44298fc1c149afbf4c8996fb92427ae41e4649b934ca495991b7852b855";
-
-/// Runs a command with some bytes for standard input.
-fn fed(mut command: Command, input: &[u8]) -> Output {
-    command.stdin(Stdio::piped()).stdout(Stdio::piped());
-    let mut child = command.stderr(Stdio::piped()).spawn().unwrap();
-    let mut pipe = child.stdin.take().unwrap();
-    pipe.write_all(input).unwrap();
-    drop(pipe);
-    child.wait_with_output().unwrap()
-}
 
 /// What `sha256sum` prints, with `abc` for standard input.
 fn sha256sum(folder: &Folder, names: &[OsString]) -> Vec<u8> {

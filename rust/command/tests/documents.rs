@@ -41,14 +41,17 @@ fn readme_shows_what_is_printed() {
     for name in ["0.vol", "1.vol", "2.vol"] {
         fs::copy(gauge.join(name), archive.join(name)).unwrap();
     }
+    let last = fs::read(archive.join("2.vol")).unwrap();
+    folder.put("torn.vol", &last[..500]);
     let runs = shown_runs(&readme());
-    assert_eq!(runs.len(), 5);
+    assert_eq!(runs.len(), 6);
     for (words, lines) in runs {
         let answer = folder.run(&words);
         assert_eq!(answer.out + &answer.err, lines, "hdrfs {words}");
     }
     let expected = fs::read(repository().join("tests/gauge/expected.csv")).unwrap();
     assert_eq!(folder.read("gauge.csv"), expected);
+    assert_eq!(folder.read("whole.vol"), last[..210]);
 }
 
 #[test]

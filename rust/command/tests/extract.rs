@@ -169,34 +169,10 @@ fn a_volume_with_a_number_too_high_for_the_lengths() {
         .is(1, "", refused);
 }
 
-/// Runs a command that must fail, with no file at OUT and with one, and compares the folder before
-/// and after.
-fn nothing_is_written(folder: &Folder, line: &str, status: i32, said: &str) {
-    for existing in [false, true] {
-        let _ = fs::remove_file(folder.0.join("out"));
-        if existing {
-            folder.put("out", b"as it was");
-        }
-        let before = folder.names();
-        let answer = folder.run(line);
-        assert_eq!(
-            (answer.status, answer.out.as_str()),
-            (status, ""),
-            "{line}: {answer:?}"
-        );
-        assert!(answer.err.starts_with(said), "{line}: {answer:?}");
-        assert_eq!(answer.err.lines().count(), 1, "{line}");
-        assert_eq!(folder.names(), before, "{line}");
-        if existing {
-            assert_eq!(folder.read("out"), b"as it was", "{line}");
-        }
-    }
-}
-
 #[test]
 fn nothing_is_written_where_something_is_refused() {
     let folder = folder("extract_refused");
-    let refused = |line: &str, said: &str| nothing_is_written(&folder, line, 1, said);
+    let refused = |line: &str, said: &str| folder.nothing_is_written(line, 1, said);
     let lacking = "v1: refused 16 at 93 (block 1): ";
     refused("extract v1 --inode 7 -o out", lacking);
     refused("extract v1 v2 --inode 7 -o out", "v2: refused 16 at ");
@@ -227,7 +203,7 @@ fn nothing_is_written_where_something_is_refused() {
 #[test]
 fn nothing_is_written_on_wrong_use() {
     let folder = folder("extract_wrong");
-    let wrong = |line: &str, said: &str| nothing_is_written(&folder, line, 2, said);
+    let wrong = |line: &str, said: &str| folder.nothing_is_written(line, 2, said);
     wrong("extract v0 none --inode 7 -o out", "none: cannot be read: ");
     wrong(
         "extract v0 v1 --inode 7 -o v1",
@@ -259,8 +235,7 @@ fn nothing_is_written_on_wrong_use() {
 fn a_file_too_large_for_any_disk_leaves_nothing() {
     let folder = Folder::new("extract_large");
     folder.put("v", &[header(0), file(1, 7, u64::MAX, &[])].concat());
-    nothing_is_written(
-        &folder,
+    folder.nothing_is_written(
         "extract v --inode 7 -o out",
         2,
         "out: cannot be written: it has 18446744073709551615 bytes, and no file here can have more",

@@ -63,6 +63,7 @@ fn output_that_cannot_be_written_is_no_success() {
         "check v0 --chain",
         "chain v0",
         "digest v0",
+        "repair v0 -o -",
         "--help",
         "check v0 --json",
     ] {
@@ -88,6 +89,8 @@ fn a_closed_pipe_ends_it_as_it_ends_others() {
         "check v0 v1",
         "chain v0 v1",
         "digest v0 v1",
+        "repair v0 -o -",
+        "repair v0 -o - --json",
         "check --fast --json",
         "runs v1 --inode 7 --json",
         "--help",

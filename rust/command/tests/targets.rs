@@ -23,11 +23,6 @@ fn folder(name: &str) -> Folder {
     folder
 }
 
-fn permissions(folder: &Folder, name: &str) -> u32 {
-    let about = fs::symlink_metadata(folder.0.join(name)).unwrap();
-    about.permissions().mode() & 0o777
-}
-
 #[test]
 fn an_existing_file_is_replaced_and_a_link_stays() {
     let folder = folder("targets_replace");
@@ -40,7 +35,7 @@ fn an_existing_file_is_replaced_and_a_link_stays() {
     assert!(fs::symlink_metadata(folder.0.join("out"))
         .unwrap()
         .is_symlink());
-    assert_eq!(permissions(&folder, "old"), 0o600);
+    assert_eq!(folder.permissions("old"), 0o600);
     assert_eq!(folder.names(), ["old", "out", "v0", "v1"]);
 }
 
@@ -126,6 +121,21 @@ fn where_standard_output_goes_is_not_replaced() {
     assert_eq!(folder.read("out"), b"");
 }
 
+/// A volume is not replaced by its other names either: a symbolic link to it, and a hard one.
+#[test]
+fn a_volume_is_not_replaced_under_another_name() {
+    let folder = folder("targets_volume");
+    symlink("v1", folder.0.join("link")).unwrap();
+    fs::hard_link(folder.0.join("v1"), folder.0.join("twin")).unwrap();
+    let before = (folder.names(), folder.read("v1"));
+    for name in ["v1", "../targets_volume/v1", "link", "twin"] {
+        let said = format!("hdrfs: {name} is one of the volumes to read\n");
+        let line = format!("extract v0 v1 --inode 7 -o {name}");
+        folder.run(&line).is(2, "", &said);
+    }
+    assert_eq!((folder.names(), folder.read("twin")), before);
+}
+
 #[test]
 fn only_regular_files_are_replaced() {
     let folder = folder("targets_kinds");
@@ -172,7 +182,7 @@ fn extracted(folder: &Folder, mode: u16, umask: &str) -> u32 {
         .status();
     assert!(status.unwrap().success());
     assert_eq!(folder.read("out"), b"1,5");
-    permissions(folder, "out")
+    folder.permissions("out")
 }
 
 #[test]

@@ -18,6 +18,7 @@ fn help_goes_to_standard_output() {
         ("runs --help", "hdrfs runs FILE.. --inode N "),
         ("extract --help", "hdrfs extract FILE.. --inode N -o OUT "),
         ("help extract", "hdrfs extract FILE.. --inode N -o OUT "),
+        ("repair --help", "hdrfs repair FILE -o OUT "),
     ] {
         let answer = folder.run(line);
         assert_eq!((answer.status, answer.err.as_str()), (0, ""), "{line}");

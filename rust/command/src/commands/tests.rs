@@ -152,6 +152,26 @@ fn lists_and_extracts() {
 }
 
 #[test]
+fn repairs() {
+    let request = |out: &str, cut| Repair {
+        file: PathBuf::from("a"),
+        out: PathBuf::from(out),
+        cut,
+    };
+    for line in ["repair a -o b", "repair -ob a", "--output=b repair a"] {
+        assert_eq!(ask(line), is(request("b", false), false), "{line}");
+    }
+    for line in [
+        "repair a -o b --cut --json",
+        "--cut --json repair -o b -- a",
+        "repair --cut a --json --cut -o b",
+    ] {
+        assert_eq!(ask(line), is(request("b", true), true), "{line}");
+    }
+    assert_eq!(ask("repair a -o -"), is(request("-", false), false));
+}
+
+#[test]
 fn help_and_version() {
     for line in [
         "--help",
@@ -223,6 +243,17 @@ fn wrong_use_is_said() {
             "extract a --inode 7 -o b --from 3",
             "extract has no option --from",
         ),
+        ("repair a", "-o is missing"),
+        ("repair -o b", "the name of a volume is missing"),
+        ("repair a b -o c", "repair takes one volume"),
+        ("repair - -o b", "repair has no option -"),
+        ("repair a -o b -j 2", "repair has no option --jobs"),
+        ("repair a -o b -o c", "--output is given twice"),
+        ("repair a -o b --cut=9", "unknown option --cut=9"),
+        (
+            "extract a --inode 7 -o b --cut",
+            "extract has no option --cut",
+        ),
         ("--help chek", "unknown command chek"),
         ("help chek", "unknown command chek"),
         ("help check list", "list is too much after help"),
@@ -243,6 +274,7 @@ fn a_long_option_needs_both_hyphens() {
             "unknown option -jobs=4; --jobs is meant?",
         ),
         ("check -help", "unknown option -help; --help is meant?"),
+        ("repair a -o b -cut", "unknown option -cut; --cut is meant?"),
         (
             "extract a --inode 1 -output b",
             "unknown option -output; --output is meant?",

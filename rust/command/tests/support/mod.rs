@@ -11,8 +11,10 @@ pub mod volumes;
 
 use std::ffi::OsStr;
 use std::fs;
+use std::io::Write;
+use std::os::unix::fs::PermissionsExt;
 use std::path::{Path, PathBuf};
-use std::process::{Command, Output};
+use std::process::{Command, Output, Stdio};
 
 /// A folder that begins empty.
 pub struct Folder(pub PathBuf);
@@ -57,6 +59,46 @@ impl Folder {
     pub fn run_words(&self, words: impl IntoIterator<Item = impl AsRef<OsStr>>) -> Answer {
         Answer::new(self.command().args(words).output().unwrap())
     }
+
+    /// Runs a command that must fail, with no file at `out` and with one, and compares the folder
+    /// before and after.
+    pub fn nothing_is_written(&self, line: &str, status: i32, said: &str) {
+        for existing in [false, true] {
+            let _ = fs::remove_file(self.0.join("out"));
+            if existing {
+                self.put("out", b"as it was");
+            }
+            let before = self.names();
+            let answer = self.run(line);
+            assert_eq!(
+                (answer.status, answer.out.as_str()),
+                (status, ""),
+                "{line}: {answer:?}"
+            );
+            assert!(answer.err.starts_with(said), "{line}: {answer:?}");
+            assert_eq!(answer.err.lines().count(), 1, "{line}");
+            assert_eq!(self.names(), before, "{line}");
+            if existing {
+                assert_eq!(self.read("out"), b"as it was", "{line}");
+            }
+        }
+    }
+
+    /// Who may read and write a file in it.
+    pub fn permissions(&self, name: &str) -> u32 {
+        let about = fs::symlink_metadata(self.0.join(name)).unwrap();
+        about.permissions().mode() & 0o777
+    }
+}
+
+/// Runs a command with some bytes for standard input.
+pub fn fed(mut command: Command, input: &[u8]) -> Output {
+    command.stdin(Stdio::piped()).stdout(Stdio::piped());
+    let mut child = command.stderr(Stdio::piped()).spawn().unwrap();
+    let mut pipe = child.stdin.take().unwrap();
+    pipe.write_all(input).unwrap();
+    drop(pipe);
+    child.wait_with_output().unwrap()
 }
 
 /// A volume of another file system: all the bytes of its ID are this one.
@@ -80,7 +122,7 @@ pub struct Answer {
 }
 
 impl Answer {
-    fn new(output: Output) -> Answer {
+    pub fn new(output: Output) -> Answer {
         Answer {
             status: output.status.code().expect("the command ended by itself"),
             out: String::from_utf8(output.stdout).unwrap(),
