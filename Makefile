@@ -9,12 +9,14 @@ HDRFS := rust/target/release/hdrfs
 LIBRARY := target/staticlib/libexchange.a
 DEMO := target/demo
 BROKEN := $(DEMO)/broken
+TORN := $(DEMO)/torn
 CRC_BITS := target/crc_bits
 VOLUMES := target/volumes
 PREFIX ?= /usr/local
 
 # The programs written in Rattle have no exit status, so what they wrote is looked at by others: the command's check, and cmp.
-# The last block of volume 0 begins at 392. Cut there, the volume is still accepted, so that only the chain shows the difference.
+# The last block of volume 0 begins at 392. Cut there, the volume is still accepted, so that only the chain shows the difference. That of
+# volume 2 begins at 210 and ends at 513: at 500 it is cut short.
 demo:
 	@rm -rf $(DEMO) && mkdir -p $(DEMO)
 	@echo "Proving what is shown here; the first time takes some minutes."
@@ -40,6 +42,14 @@ demo:
 	@status=0; $(HDRFS) chain $(BROKEN) > $(BROKEN)/chain.log || status=$$?; cat $(BROKEN)/chain.log; test $$status -eq 1
 	@grep -q "/1.vol: refused 23: .* (previous hash differs)$$" $(BROKEN)/chain.log
 	@grep -q "broken at 1 of 2 places$$" $(BROKEN)/chain.log
+	@echo
+	@echo "A copy of volume 2 that ends within its last block, as where power was lost during an append, and what repairing it leaves:"
+	@mkdir $(TORN) && head -c 500 $(DEMO)/2.vol > $(TORN)/torn.vol
+	@status=0; $(HDRFS) check $(TORN)/torn.vol 2>&1 | tee $(TORN)/check.log || status=$$?; test $$status -eq 1
+	@grep -q "/torn.vol: refused 2 at 210 (block 2): " $(TORN)/check.log
+	@$(HDRFS) repair $(TORN)/torn.vol -o $(TORN)/whole.vol
+	@$(HDRFS) check $(TORN)/whole.vol
+	@head -c 210 $(DEMO)/2.vol | cmp - $(TORN)/whole.vol
 	@echo
 	@echo "What is in the archive, and the blocks of its last volume:"
 	@$(HDRFS) inodes $(DEMO)
@@ -75,8 +85,8 @@ test:
 # The exported calls, made from C through include/hdrfs.h and compared with what they must answer.
 calls:
 	rt staticlib exchange
-	gcc -std=c11 -Wall -Wextra -Werror -Iinclude tests/c/calls.c tests/c/texts.c tests/c/digests.c target/staticlib/libexchange.a \
-		-o target/calls
+	gcc -std=c11 -Wall -Wextra -Werror -Iinclude tests/c/calls.c tests/c/texts.c tests/c/digests.c tests/c/repair.c \
+		target/staticlib/libexchange.a -o target/calls
 	./target/calls | diff tests/c/calls.expected -
 
 rust-tests:

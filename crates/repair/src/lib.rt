@@ -10,6 +10,9 @@ use volume::checking::check;
 ghost use mathlib.Core.Path.{_≡_};
 ghost use Rattle.repair.specs.Repairing.{isTorn, repairAnswer};
 
+// Where a header has the sequence number.
+const SEQUENCE_AT: usize = 36;
+
 // The length of the longest beginning that is an accepted volume, or why nothing is repaired.
 pub enum RepairAnswer {
     Length(usize),
@@ -44,7 +47,7 @@ pub fn repair(volume: &[u8]) -> RepairAnswer
         Verdict::Refused(rejected) => {
             let refusal = rejected.refusal;
             let offset = rejected.offset;
-            let sequence = number::read_u64(volume, 36);
+            let sequence = number::read_u64(volume, SEQUENCE_AT);
             if is_torn(sequence, refusal.number, offset) {
                 RepairAnswer::Length(offset)
             } else {
