@@ -32,20 +32,7 @@ fn folder(name: &str) -> Folder {
 
 #[test]
 fn a_file_longer_than_allowed_leaves_nothing() {
-    let folder = folder("disk_limit");
-    folder.put("out", b"as it was");
-    let line = "ulimit -f 16 && exec \"$0\" extract v --inode 7 -o out";
-    let mut command = Command::new("sh");
-    command.args(["-c", line, env!("CARGO_BIN_EXE_hdrfs")]);
-    let output = command.current_dir(&folder.0).output().unwrap();
-    assert_eq!(output.status.code(), Some(2));
-    let said = String::from_utf8_lossy(&output.stderr);
-    assert!(
-        said.starts_with("out: cannot be written: File too large"),
-        "{said}"
-    );
-    assert_eq!(folder.read("out"), b"as it was");
-    assert_eq!(folder.names(), ["out", "v"]);
+    folder("disk_limit").too_large_to_write("extract v --inode 7 -o out");
 }
 
 #[test]

@@ -386,17 +386,5 @@ fn the_copy_is_for_no_more_people_than_the_volume() {
 #[test]
 fn a_copy_that_cannot_be_written_leaves_nothing() {
     let folder = folder("repair_limit", &and_then(&data(8, &[b'x'; 200_000])));
-    folder.put("out", b"as it was");
-    let line = "ulimit -f 16 && exec \"$0\" repair v -o out";
-    let mut command = Command::new("sh");
-    command.args(["-c", line, env!("CARGO_BIN_EXE_hdrfs")]);
-    let output = command.current_dir(&folder.0).output().unwrap();
-    assert_eq!(output.status.code(), Some(2));
-    let said = String::from_utf8_lossy(&output.stderr);
-    assert!(
-        said.starts_with("out: cannot be written: File too large"),
-        "{said}"
-    );
-    assert_eq!(folder.read("out"), b"as it was");
-    assert_eq!(folder.names(), ["out", "v"]);
+    folder.too_large_to_write("repair v -o out");
 }

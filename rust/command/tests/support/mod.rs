@@ -84,6 +84,21 @@ impl Folder {
         }
     }
 
+    /// Runs a command that writes `out` from `v`, under a limit that is lower than what there is to
+    /// write: it fails, `out` is as it was, and nothing else is left.
+    pub fn too_large_to_write(&self, words: &str) {
+        self.put("out", b"as it was");
+        let line = format!("ulimit -f 16 && exec \"$0\" {words}");
+        let mut command = Command::new("sh");
+        command.args(["-c", &line, env!("CARGO_BIN_EXE_hdrfs")]);
+        let answer = Answer::new(command.current_dir(&self.0).output().unwrap());
+        assert_eq!(answer.status, 2, "{answer:?}");
+        let said = "out: cannot be written: File too large";
+        assert!(answer.err.starts_with(said), "{answer:?}");
+        assert_eq!(self.read("out"), b"as it was");
+        assert_eq!(self.names(), ["out", "v"]);
+    }
+
     /// Who may read and write a file in it.
     pub fn permissions(&self, name: &str) -> u32 {
         let about = fs::symlink_metadata(self.0.join(name)).unwrap();
