@@ -1,7 +1,7 @@
 /* Calls every function of hdrfs.h on two sound volumes, on no bytes at all, and on numbers from the edges, and prints the
  * numbers that come back, a line for each call, in the order of the struct; and writes the second volume anew, and others whose
  * blocks have equal and lower times, or cannot be counted. Texts that are not UTF-8 are tried in texts.c, digests and pairs of
- * volumes in digests.c. calls.expected has what all of them must print.
+ * volumes in digests.c, volumes that were cut short in repair.c. calls.expected has what all of them must print.
  *
  * The two volumes are the samples v.vol and all_kinds.vol.
  */
@@ -23,6 +23,12 @@ IS_NUMBER(hdrfs_checked, offset, 5);
 IS_NUMBER(hdrfs_checked, timed, 6);
 IS_NUMBER(hdrfs_checked, time, 7);
 HAS_FIELDS(hdrfs_checked, 8);
+
+IS_NUMBER(hdrfs_repaired, refusal, 0);
+IS_NUMBER(hdrfs_repaired, text, 1);
+IS_NUMBER(hdrfs_repaired, start, 2);
+IS_NUMBER(hdrfs_repaired, length, 3);
+HAS_FIELDS(hdrfs_repaired, 4);
 
 IS_NUMBER(hdrfs_place, refusal, 0);
 IS_NUMBER(hdrfs_place, text, 1);
@@ -358,7 +364,6 @@ static hdrfs_written mark;
         mark = call;                                                                                        \
         show(#call, &mark, sizeof mark);                                                                    \
     } while (0)
-#define AT_MARK buf, sizeof buf, mark.next, mark.due, mark.timed, mark.last, mark.number
 
 /* The second volume anew, block by block: the same bytes, and none behind them. */
 static void write_all(void)
@@ -520,5 +525,6 @@ int main(void)
     write_at_the_top();
     try_texts();
     try_digests();
+    try_repair();
     return 0;
 }

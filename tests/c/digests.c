@@ -3,7 +3,7 @@
  */
 #include "calls.h"
 
-enum { STATE_LEN = 104, DIGEST_LEN = 32, FED_AT = 32, HELD_AT = 40, LIMIT = 16777216 };
+enum { STATE_LEN = 104, DIGEST_LEN = 32, FED_AT = 32, HELD_AT = 40 };
 
 /* The words of a digest to which nothing was fed. */
 static const uint32_t FIRST[8] = {

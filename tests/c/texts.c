@@ -57,6 +57,7 @@ static void judge(uint64_t due)
     SHOW_MADE(uint64_t, hdrfs_check_refusal(made, made_len));
     SHOW_MADE(uint64_t, hdrfs_check_text(made, made_len));
     SHOW_MADE(uint64_t, hdrfs_check_start(made, made_len));
+    SHOW_MADE(hdrfs_repaired, hdrfs_repair(made, made_len));
     SHOW_MADE(hdrfs_block, hdrfs_read(made, made_len, 80, due, 0, 0, 0));
     SHOW_MADE(hdrfs_place, hdrfs_lookup(made, made_len, 80, NULL, 0, 0));
     SHOW_MADE(uint64_t, hdrfs_lookup_refusal(made, made_len, 80, NULL, 0, 0));
