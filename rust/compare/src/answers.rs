@@ -35,7 +35,7 @@ macro_rules! told {
     )*};
 }
 
-told! { Checked Heading Block Paired Place RunCount Source Written }
+told! { Checked Heading Block Paired Place Repaired RunCount Source Written }
 
 /// The answer of a check. Beside a refusal only the offset and the number of blocks stay.
 #[must_use]
@@ -62,6 +62,18 @@ pub fn checked(verdict: &Verdict) -> sys::Checked {
             offset,
             ..refused!(Checked, refusal)
         },
+    }
+}
+
+/// The answer of a repair.
+#[must_use]
+pub fn repaired(answer: Result<u64, Refusal>) -> sys::Repaired {
+    match answer {
+        Ok(length) => sys::Repaired {
+            length,
+            ..Default::default()
+        },
+        Err(refusal) => refused!(Repaired, refusal),
     }
 }
 

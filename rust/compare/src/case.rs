@@ -11,7 +11,7 @@ use crate::files::Inode;
 use crate::items::{self, Asked};
 use crate::tally::{Call, Tally};
 use crate::texts::Texts;
-use crate::{blocks, fetching, links, steps, volume};
+use crate::{blocks, fetching, links, repairs, steps, volume};
 
 /// Compares every number of every answer.
 pub fn compare(case: &Case, tally: &mut Tally) -> Result<(), Difference> {
@@ -33,12 +33,15 @@ pub fn compare(case: &Case, tally: &mut Tally) -> Result<(), Difference> {
     Ok(())
 }
 
-/// The check, the header and all blocks in order.
+/// The check, the repair, the header and all blocks in order.
 fn whole(case: &Case, tally: &mut Tally) -> Result<(), Difference> {
     let bytes = &case.volume;
     let checked = volume::check(bytes)?;
     tally.reads.check[checked.refusal as usize] += 1;
     tally.note_text(Call::Check, checked.told());
+    let repair = repairs::repair(bytes, &checked)?;
+    tally.repairs.note(&repair);
+    tally.note_text(Call::Repair, repair.answer.told());
     tally.reads.header[volume::header(bytes)?.number as usize] += 1;
     tally.reads.header[volume::header(&case.other)?.number as usize] += 1;
     as_made(case, &checked)?;

@@ -14,6 +14,9 @@
 //! one for five seeds as bytes, one for 25 as files, and one for 40 that goes through the command, in
 //! the tests of `hdrfs-command`. Of digests there is one for four seeds, of pairs of volumes one for
 //! two, and of archives with true hashes one for 25; for these the Rust types are always compared.
+//! Each case is repaired. Of volumes that are damaged to be repaired there is one for two seeds, and of
+//! those that are cut at every byte one for 25 and one case for 20; one for ten is cut and written on.
+//! There too the Rust types are always compared.
 //!
 //! A case that differs is printed with its seed and its bytes; `HDRFS_SEEDS=1 HDRFS_FIRST=<seed>`
 //! compares it alone. The tests also fail if a refusal number that can occur was not compared, or if
@@ -34,6 +37,7 @@ pub mod json;
 mod lent;
 pub mod links;
 pub mod pairs;
+pub mod repairs;
 pub mod requests;
 pub mod seeds;
 pub mod small;

@@ -3,6 +3,8 @@
 use generator::image::{extent_bytes, table_link};
 use generator::rng::Rng;
 use generator::{extents, text};
+use hdrfs::sys;
+use independent::block::{DATA, INODE, LINK, REMOVED_XATTR, RENAME, TABLE, UNLINK, XATTR};
 use independent::Stat;
 
 /// The arguments of one append.
@@ -19,6 +21,27 @@ pub enum Request {
 }
 
 impl Request {
+    /// Asks for a block that was read from a volume.
+    #[must_use]
+    pub fn of_block(volume: &[u8], block: &sys::Block) -> Request {
+        let part = |start: u64, length: u64| volume[start as usize..][..length as usize].to_vec();
+        let first = part(block.part, block.part_len);
+        let second = part(block.second, block.second_len);
+        let (time, inode) = (block.time, block.inode);
+        let link = [block.child, block.parent];
+        match block.id as u8 {
+            INODE => Request::Inode(stat(block), first),
+            LINK => Request::Link(time, link, first),
+            UNLINK => Request::Unlink(time, link, first),
+            XATTR => Request::Xattr(time, inode, first, second),
+            REMOVED_XATTR => Request::RemovedXattr(time, inode, first),
+            DATA => Request::Data(time, first),
+            RENAME => Request::Rename(time, first, second),
+            TABLE => Request::Table(block.count, first),
+            id => unreachable!("a block with ID {id}"),
+        }
+    }
+
     /// The kinds, by [`Request::kind`].
     pub const KINDS: [&str; 8] = [
         "inode",
@@ -90,6 +113,22 @@ impl Request {
             | Request::Rename(time, ..) => Some(time),
             Request::Table(..) => None,
         }
+    }
+}
+
+/// The numbers of an inode block that was read.
+fn stat(block: &sys::Block) -> Stat {
+    Stat {
+        inode: block.inode,
+        time: block.time,
+        mode: block.mode as u16,
+        uid: block.uid as u16,
+        gid: block.gid as u16,
+        atime: block.atime,
+        mtime: block.mtime,
+        ctime: block.ctime,
+        btime: block.btime,
+        size: block.size,
     }
 }
 

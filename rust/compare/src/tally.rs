@@ -2,6 +2,7 @@
 
 mod chain;
 mod columns;
+mod repairs;
 
 use independent::Refusal;
 
@@ -10,6 +11,7 @@ use columns::{add, columns};
 
 pub use chain::{Digests, Pairs};
 pub use columns::Numbers;
+pub use repairs::Repairs;
 
 /// How blocks with a last time before them are come to.
 pub const WAYS: [&str; 3] = ["from the header on", "by a bookmark", "behind a table"];
@@ -25,13 +27,20 @@ pub const LAST: [&str; 3] = [
 #[derive(Clone, Copy, Debug, PartialEq, Eq)]
 pub enum Call {
     Check,
+    Repair,
     Read,
     Lookup,
     Runs,
 }
 
 impl Call {
-    const ALL: [Call; 4] = [Call::Check, Call::Read, Call::Lookup, Call::Runs];
+    const ALL: [Call; 5] = [
+        Call::Check,
+        Call::Repair,
+        Call::Read,
+        Call::Lookup,
+        Call::Runs,
+    ];
 }
 
 // 18 cannot occur, since a kept byte needs a block of at least one byte, and no call gives 19 to 22;
@@ -56,6 +65,8 @@ columns! {
 pub struct Tally {
     /// The answers, call by call.
     pub reads: Reads,
+    /// Those of repairs, by where the first fault is.
+    pub repairs: Repairs,
     /// Holes, stored bytes and positions past the end.
     pub kinds: [u64; 3],
     /// Blocks read at the very last time before them, in each of [`WAYS`].
@@ -65,13 +76,14 @@ pub struct Tally {
     /// Readings at the number before, and behind them, as in [`LAST`].
     pub last: [u64; 3],
     /// Texts at fault, by [`Call`].
-    pub texts: [Texts; 4],
+    pub texts: [Texts; 5],
 }
 
 impl Tally {
     /// Adds the counts of another.
     pub fn add(&mut self, other: &Tally) {
         self.reads.add(&other.reads);
+        self.repairs.add(&other.repairs);
         add(&mut self.kinds, &other.kinds);
         add(&mut self.equal, &other.equal);
         add(&mut self.uncounted, &other.uncounted);
@@ -85,6 +97,7 @@ impl Tally {
     #[must_use]
     pub fn faults(&self) -> Vec<String> {
         let mut faults = self.reads.faults();
+        faults.extend(self.repairs.faults());
         for (kind, &count) in self.kinds.iter().enumerate() {
             if count == 0 {
                 faults.push(format!("lookup: no position of kind {kind}"));
@@ -122,6 +135,7 @@ impl Tally {
     #[must_use]
     pub fn table(&self) -> String {
         let mut text = self.reads.table();
+        text += &format!("\nrepairs\n{}", self.repairs.table());
         let [holes, stored, past_end] = self.kinds;
         text += &format!("\nholes {holes}, stored {stored}, past end {past_end}");
         for (way, count) in WAYS.iter().zip(self.equal) {
@@ -148,11 +162,12 @@ fn full() -> Tally {
     };
     Tally {
         reads: Reads::full(),
+        repairs: Repairs::full(),
         kinds: [1; 3],
         equal: [1; 3],
         uncounted: [1; 8],
         last: [1; 3],
-        texts: [often; 4],
+        texts: [often; 5],
     }
 }
 
@@ -180,9 +195,11 @@ mod tests {
         less.uncounted[7] = 0;
         less.last[1] = 0;
         less.texts[Call::Lookup as usize].both -= 1;
+        less.repairs.table[13] = 0;
         let missing = [
             "full: answer 9 came 0 times",
             "runs: answer 17 came 0 times",
+            "table: answer 13 came 0 times",
             "read: no equal time behind a table",
             "read: no block 8 that cannot be counted",
             "read: not the end behind it",
@@ -194,7 +211,7 @@ mod tests {
         assert_eq!(more.faults(), ["lookup: answer 18 came 3 times"]);
         assert_eq!(
             Tally::default().faults().len(),
-            15 + 7 + 12 + 12 + 12 + 13 + 8 + 3 + 3 + 8 + 3 + 4
+            15 + 7 + 12 + 12 + 12 + 13 + 8 + (1 + 6 + 7 + 9) + 3 + 3 + 8 + 3 + 5
         );
     }
 }

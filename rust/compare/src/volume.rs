@@ -8,10 +8,16 @@ use crate::answers::{self, Told};
 use crate::difference::{same, Answer, Difference};
 use crate::texts::which;
 
-/// The check in one call and in eight. Answers what both gave.
-pub fn check(volume: &[u8]) -> Result<sys::Checked, Difference> {
+/// The check in one call. Answers what both gave.
+pub fn check_at_once(volume: &[u8]) -> Result<sys::Checked, Difference> {
     let expected = answers::checked(&independent::check(volume));
     same(sys::check(volume), expected, || "check".into())?;
+    Ok(expected)
+}
+
+/// The check in one call and in eight. Answers what both gave.
+pub fn check(volume: &[u8]) -> Result<sys::Checked, Difference> {
+    let expected = check_at_once(volume)?;
     let split = sys::Checked {
         refusal: sys::check_refusal(volume),
         text: sys::check_text(volume),

@@ -8,7 +8,7 @@ use compare::files::Inode;
 use compare::seeds::Seeds;
 use compare::tally::Numbers;
 use compare::texts::Texts;
-use compare::{small, volume, Difference};
+use compare::{repairs, small, volume, Difference};
 use generator::draft::Draft;
 use generator::image;
 use independent::Refusal;
@@ -38,9 +38,11 @@ where
     sum
 }
 
-/// Compares the checks of some bytes.
+/// Compares the checks and the repairs of some bytes.
 fn check(bytes: &[u8], counts: &mut Numbers) -> Result<(), String> {
     let checked = volume::check(bytes).map_err(|difference| told(difference, bytes))?;
+    let repair = repairs::repair(bytes, &checked);
+    repair.map_err(|difference| told(difference, bytes))?;
     counts[checked.refusal as usize] += 1;
     Ok(())
 }
