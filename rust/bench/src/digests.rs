@@ -11,7 +11,7 @@ use independent::sha256;
 use independent::sha256::State;
 
 use crate::report::{self, Unit};
-use crate::timing::{self, use_up};
+use crate::timing::{self, each_call, use_up};
 
 /// Calls in one measurement, where there are few bytes.
 const CALLS: u32 = 2_000;
@@ -60,18 +60,12 @@ fn one_call(name: &str, bytes: &[u8], rounds: usize) {
     let times = timing::best(
         rounds,
         [
-            &mut || each_call(|| use_up(Volume::digest(black_box(bytes)))),
-            &mut || each_call(|| use_up(sha256(black_box(bytes)))),
+            &mut || each_call(CALLS, || use_up(Volume::digest(black_box(bytes)))),
+            &mut || each_call(CALLS, || use_up(sha256(black_box(bytes)))),
         ],
     );
     let one_call = |time: Duration| time / CALLS;
     report::pair(name, Unit::Microseconds, times.map(one_call));
-}
-
-fn each_call(call: impl Fn()) {
-    for _ in 0..CALLS {
-        call();
-    }
 }
 
 /// The digest of bytes that are fed in parts of this size.

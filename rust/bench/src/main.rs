@@ -16,6 +16,7 @@ mod clock;
 mod digests;
 mod files;
 mod folder;
+mod repair;
 mod report;
 mod short;
 mod sums;
@@ -33,12 +34,13 @@ const ROUNDS: usize = 9;
 type Part = fn(usize);
 
 /// The parts, by name.
-const PARTS: [(&str, Part); 10] = [
+const PARTS: [(&str, Part); 11] = [
     ("sums", sums::run),
     ("volumes", volumes::run),
     ("checks", checks::run),
     ("short", short::run),
     ("texts", texts::run),
+    ("repair", repair::run),
     ("files", files::run),
     ("appends", appends::run),
     ("digests", digests::run),

@@ -50,6 +50,32 @@ pub fn row(name: &str, unit: Unit, times: [Duration; 3]) {
     );
 }
 
+/// The heading of a table of repairs, whose rows have long names.
+pub fn repair_heading(title: &str, unit: Unit) {
+    let unit = unit.name();
+    println!(
+        "{title:<50}{:>10}{:>10}{:>11}{:>9}{:>9}{:>11}{:>9}",
+        format!("proved {unit}"),
+        format!("table {unit}"),
+        format!("slicing {unit}"),
+        format!("check {unit}"),
+        "/ table",
+        "/ slicing",
+        "/ check"
+    );
+}
+
+/// One row: the proved repair, with table, with slicing, and the proved check of the same volume.
+pub fn repair(name: &str, unit: Unit, times: [Duration; 4]) {
+    let [proved, table, slicing, check] = times.map(|time| unit.of(time));
+    println!(
+        "{name:<50}{proved:>10.3}{table:>10.3}{slicing:>11.3}{check:>9.3}{:>9.2}{:>11.2}{:>9.2}",
+        proved / table,
+        proved / slicing,
+        proved / check
+    );
+}
+
 /// The heading of a table with one ratio.
 pub fn pair_heading(title: &str, unit: Unit) {
     let unit = unit.name();

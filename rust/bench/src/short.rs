@@ -8,7 +8,7 @@ use hdrfs::sys;
 use independent::{check, check_with, crc, Verdict};
 
 use crate::report::{self, Unit};
-use crate::timing::{self, use_up};
+use crate::timing::{self, each_call, use_up};
 
 /// Calls in one measurement.
 const CALLS: u32 = 2_000;
@@ -45,19 +45,13 @@ fn row(name: &str, volume: &[u8], rounds: usize) {
     let times = timing::best(
         rounds,
         [
-            &mut || each_call(|| use_up(sys::check(black_box(volume)))),
-            &mut || each_call(|| use_up(check_with(black_box(volume), crc::table))),
-            &mut || each_call(|| use_up(check(black_box(volume)))),
+            &mut || each_call(CALLS, || use_up(sys::check(black_box(volume)))),
+            &mut || each_call(CALLS, || use_up(check_with(black_box(volume), crc::table))),
+            &mut || each_call(CALLS, || use_up(check(black_box(volume)))),
         ],
     );
     let one_call = |time: Duration| time / CALLS;
     report::row(name, Unit::Microseconds, times.map(one_call));
-}
-
-fn each_call(call: impl Fn()) {
-    for _ in 0..CALLS {
-        call();
-    }
 }
 
 /// Times mean nothing where the answers differ.

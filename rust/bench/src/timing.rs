@@ -36,6 +36,13 @@ fn best_by<const N: usize>(
     best
 }
 
+/// Makes a call so many times, where one takes too little time to be measured by itself.
+pub fn each_call(calls: u32, call: impl Fn()) {
+    for _ in 0..calls {
+        call();
+    }
+}
+
 /// Takes an answer, so that the work for it cannot be left out.
 pub fn use_up<T>(answer: T) {
     black_box(answer);
