@@ -59,6 +59,19 @@ impl Seeds {
     }
 }
 
+/// Adds up what the threads have gathered.
+///
+/// # Panics
+///
+/// Where a seed failed, with what the work said of it.
+pub fn sum<T: Default>(gathered: Result<Vec<T>, String>, add: impl Fn(&mut T, &T)) -> T {
+    let mut sum = T::default();
+    for part in gathered.unwrap_or_else(|told| panic!("{told}")) {
+        add(&mut sum, &part);
+    }
+    sum
+}
+
 fn cores() -> usize {
     thread::available_parallelism().map_or(1, NonZero::get)
 }

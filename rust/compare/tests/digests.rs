@@ -2,7 +2,7 @@
 #![forbid(unsafe_code)]
 
 use compare::digests::{self, parts, start, whole};
-use compare::seeds::{Seeds, USUAL};
+use compare::seeds::{sum, Seeds, USUAL};
 use compare::tally::Digests;
 use compare::Difference;
 use generator::digest::{describe, digest, edges, Digest, State, START};
@@ -17,15 +17,6 @@ fn compare_digest(digest: &Digest, tally: &mut Digests) -> Result<(), String> {
     compared.map_err(|difference| format!("{difference}\n{}", describe(digest)))
 }
 
-/// Adds up what the threads have gathered.
-fn sum(tallies: Result<Vec<Digests>, String>) -> Digests {
-    let mut sum = Digests::default();
-    for tally in tallies.unwrap_or_else(|told| panic!("{told}")) {
-        sum.add(&tally);
-    }
-    sum
-}
-
 /// The edges are counted too, since few seeds have more bytes than can be digested.
 #[test]
 fn digests_agree_and_reach_every_refusal() {
@@ -36,7 +27,7 @@ fn digests_agree_and_reach_every_refusal() {
     };
     let mut all = all_edges();
     let tallies = seeds.each(|seed, tally| compare_digest(&digest(seed), tally));
-    all.add(&sum(tallies));
+    all.add(&sum(tallies, Digests::add));
     println!("{} seeds from {}", seeds.count, seeds.first);
     println!("with the edges\n{}", all.table());
     if asked.count >= USUAL {
@@ -54,7 +45,8 @@ fn all_edges() -> Digests {
         first: 0,
         count: list.len() as u64,
     };
-    let sum = sum(places.each(|place, tally| compare_digest(&list[place as usize], tally)));
+    let tallies = places.each(|place, tally| compare_digest(&list[place as usize], tally));
+    let sum = sum(tallies, Digests::add);
     println!("edges\n{}", sum.table());
     for numbers in [sum.feed, sum.finish, sum.fed, sum.finished] {
         assert!(numbers[0] > 1_000 && numbers[1] > 1_000, "{numbers:?}");

@@ -8,7 +8,7 @@ use std::num::NonZeroUsize;
 use compare::archives::chain;
 use compare::archives::folder::Folder;
 use compare::pairs::{self, pair};
-use compare::seeds::{Seeds, USUAL};
+use compare::seeds::{sum, Seeds, USUAL};
 use compare::small;
 use compare::tally::{Numbers, Pairs};
 use compare::texts::Texts;
@@ -80,15 +80,6 @@ impl Counts {
     }
 }
 
-/// Adds up what the threads have gathered.
-fn sum(counted: Result<Vec<Counts>, String>) -> Counts {
-    let mut sum = Counts::default();
-    for counts in counted.unwrap_or_else(|told| panic!("{told}")) {
-        sum.add(&counts);
-    }
-    sum
-}
-
 /// The edges are counted too, since few seeds have a volume that is too long.
 #[test]
 fn pairs_agree_and_reach_every_refusal() {
@@ -99,7 +90,7 @@ fn pairs_agree_and_reach_every_refusal() {
     };
     let mut all = all_edges();
     let counted = seeds.each(|seed, counts: &mut Counts| counts.compare(&made::pair(seed, digest)));
-    all.add(&sum(counted));
+    all.add(&sum(counted, Counts::add));
     println!("{} seeds from {}", seeds.count, seeds.first);
     println!("with the edges\n{}\n{:?}", all.pairs.table(), all.kinds);
     println!("{REASONS:?}: {:?}\n{}", all.reasons, all.texts);
@@ -124,7 +115,8 @@ fn all_edges() -> Counts {
         first: 0,
         count: list.len() as u64,
     };
-    let sum = sum(places.each(|place, counts: &mut Counts| counts.compare(&list[place as usize])));
+    let counted = places.each(|place, counts: &mut Counts| counts.compare(&list[place as usize]));
+    let sum = sum(counted, Counts::add);
     // One for each byte of a hash and of an ID, and one that is too long on either side.
     assert!(sum.reasons[2] >= 32 && sum.reasons[0] >= 16);
     assert!(sum.pairs.first[1] > 0 && sum.pairs.second[1] > 0);

@@ -5,7 +5,7 @@ use std::collections::BTreeMap;
 
 use compare::repairs::{self, Repair};
 use compare::requests::Request;
-use compare::seeds::{Seeds, USUAL};
+use compare::seeds::{sum, Seeds, USUAL};
 use compare::tally::Repairs;
 use compare::Difference;
 use generator::torn::{self, describe, describe_damaged, Kind, Whole, MOST};
@@ -80,15 +80,6 @@ impl Counts {
     }
 }
 
-/// Adds up what the threads have gathered.
-fn sum(counted: Result<Vec<Counts>, String>) -> Counts {
-    let mut sum = Counts::default();
-    for counts in counted.unwrap_or_else(|told| panic!("{told}")) {
-        sum.add(&counts);
-    }
-    sum
-}
-
 /// Damaged volumes, the beginnings of all kinds of others, and the edges, since no other is too long.
 #[test]
 fn repairs_agree_and_reach_every_answer() {
@@ -96,9 +87,9 @@ fn repairs_agree_and_reach_every_answer() {
     let (damaged, _) = seeds(DAMAGED);
     let mut all = all_edges();
     let counted = cases.each(|seed, counts: &mut Counts| counts.case(&generator::case(seed)));
-    all.add(&sum(counted));
+    all.add(&sum(counted, Counts::add));
     let counted = damaged.each(|seed, counts: &mut Counts| counts.damaged(seed));
-    all.add(&sum(counted));
+    all.add(&sum(counted, Counts::add));
     println!("{} cases, {} damaged", cases.count, damaged.count);
     println!("with the edges\n{}\n{:?}", all.repairs.table(), all.kinds);
     if !enough {
@@ -117,10 +108,11 @@ fn all_edges() -> Counts {
         first: 0,
         count: list.len() as u64,
     };
-    let sum = sum(places.each(|place, counts: &mut Counts| {
+    let counted = places.each(|place, counts: &mut Counts| {
         let edge = &list[place as usize];
         counts.note(repairs::edge(edge), || edge.name.clone())
-    }));
+    });
+    let sum = sum(counted, Counts::add);
     println!("{} edges\n{}", list.len(), sum.repairs.table());
     // Each byte of nine kinds of blocks, and of a table.
     assert!(sum.repairs.block[0] > 400 && sum.repairs.table[2] > 30);
@@ -133,7 +125,7 @@ fn all_edges() -> Counts {
 fn every_cut_of_a_whole_volume() {
     let (seeds, enough) = seeds(CUT);
     let counted = seeds.each(|seed, counts: &mut Counts| counts.whole(&torn::whole(seed)));
-    let told = sum(counted).repairs;
+    let told = sum(counted, Counts::add).repairs;
     println!("{} volumes\n{}", seeds.count, told.table());
     // A header has 80 bytes, and no block fewer than 17.
     assert_eq!(told.header[2], 80 * seeds.count);
