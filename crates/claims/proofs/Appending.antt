@@ -89,6 +89,18 @@ appended buffer mark block s = go (eqb (appendFault (length buffer) mark block) 
     go true e = accepted (append-sound (length buffer) mark block s (eqb-true _ _ e))
     go false e = refused _ (λ a. eqb-false _ _ e (append-complete (length buffer) mark block a))
 
+-- an append that answers a bookmark has no fault, and the bookmark is the one after the block
+pub append-accepted : (room : ℕ) (mark next : Bookmark) (block : Block) → appendAnswer room mark block ≡ Next next
+    → (appendFault room mark block ≡ 0) × (after mark block ≡ next)
+unfolding appendAnswer
+append-accepted room mark next block = go (eqb (appendFault room mark block) 0) refl
+  where
+    go : (sound : Bool) → eqb (appendFault room mark block) 0 ≡ sound
+        → cond sound (Next (after mark block)) (Refused (refusalWith (appendFault room mark block) (texts block))) ≡ Next next
+        → (appendFault room mark block ≡ 0) × (after mark block ≡ next)
+    go true e q = (eqb-true _ _ e, cc)
+    go false e q = let z : _≡_ {A = ℕ} 0 1 = cc in absurd (omega arith)
+
 -- and the same of a block that is known to be admitted
 pub admitted-appended : (buffer : List ℕ) (mark : Bookmark) (block : Block) → Admitted (length buffer) mark block
     → (appendAnswer (length buffer) mark block ≡ Next (after mark block))

@@ -25,10 +25,11 @@ use Rattle.volume.specs.declared.Found.{Found}
 use Rattle.volume.specs.declared.ReadAnswer.the-variants as read
 use Rattle.volume.specs.declared.WriteAnswer.the-variants as write
 use Rattle.volume.proofs.Steps.{foundAt}
-use Rattle.volume.proofs.OneCall.{after, right-place, place-right}
+use Rattle.volume.proofs.OneCall.{right-place, place-right}
 use Rattle.claims.specs.Library.{ours}
 use Rattle.claims.specs.AnyBookmark.{InPlace, NextAfter}
 use Rattle.claims.specs.LastNumber.{numbered, lastNumber, uncounted, LastNumber}
+use Rattle.claims.proofs.Appending.{append-accepted}
 use Rattle.claims.proofs.AnyBookmark.{due-table, table-due, next-after}
 
 -- Reading.
@@ -112,13 +113,7 @@ module _ (room : ℕ) (mark : Bookmark) (block : Block) where
   refused {fault} e n t = rw (e, ne-eqb fault 0 n) (ap write.Refused (sym (with-other fault (texts block) t)))
 
   counts-on : (next : Bookmark) → appendAnswer room mark block ≡ write.Next next → NextAfter mark block next
-  unfolding appendAnswer
-  counts-on next = go (eqb (appendFault room mark block) 0)
-    where
-      go : (sound : Bool) → cond sound (write.Next (after mark block)) (write.Refused (refusalWith (appendFault room mark block) (texts block))) ≡ write.Next next
-          → NextAfter mark block next
-      go true e = let same : after mark block ≡ next = cc in subst (NextAfter mark block) same (next-after mark block)
-      go false e = let z : _≡_ {A = ℕ} 0 1 = cc in absurd (omega arith)
+  counts-on next e = subst (NextAfter mark block) (append-accepted room mark next block e .1) (next-after mark block)
 
 buffer-stays : (buffer : List ℕ) (mark : Bookmark) (block : Block) → appendBuffer buffer (numbered lastNumber mark) block ≡ buffer
 unfolding appendBuffer

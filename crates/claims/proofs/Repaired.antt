@@ -32,10 +32,10 @@ use Rattle.claims.proofs.Longest.{Begun, begun, longest-there, longest-
 use Rattle.claims.proofs.Torn.{left, at-end, header-there, passes-there, torn-refused}
 
 -- at 80 behind a header above 0 a table is due, and behind it none is
-table-due : (volume : List ℕ) (sequence : ℕ) (at : Bookmark) → Passes volume (firstMark sequence) at
+table-test-is-due : (volume : List ℕ) (sequence : ℕ) (at : Bookmark) → Passes volume (firstMark sequence) at
     → inTable sequence (at .offset) ≡ at .due
-table-due volume sequence at here = and-true (ltb 0 sequence)
-table-due volume sequence at (past {found = found} e later) =
+table-test-is-due volume sequence at here = and-true (ltb 0 sequence)
+table-test-is-due volume sequence at (past {found = found} e later) =
     let further = read-further volume (firstMark sequence) found e in
     let onward = passes-further later (further .1) in
     let due = passes-due later (sym (ap (λ (f : Found). f .next .due) (found-there volume (firstMark sequence) found e))) in
@@ -48,7 +48,7 @@ unfolding isTorn
 torn-there volume header at number e p =
     let start : Begun volume header = begun volume header e in
     let far = passes-further p (omega (arith, start .base, start .long)) in
-    let due = table-due volume (sequenceOf volume) at (subst (λ (mark : Bookmark). Passes volume mark at) (sym (start .first)) p) in
+    let due = table-test-is-due volume (sequenceOf volume) at (subst (λ (mark : Bookmark). Passes volume mark at) (sym (start .first)) p) in
     rw (ne-eqb (at .offset) 0 (λ z. omega (arith, far .0, start .base)), due)
 
 -- The test and the rule, of a volume that is refused.

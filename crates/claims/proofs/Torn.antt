@@ -1,55 +1,38 @@
 -- A torn append is refused with 2 where the volume ended: the reader goes through the volume as before, and the block that comes then is
 -- one that was sound before its end was cut off. Assumes nothing.
 use Prim.Native.Nat.{ℕ, _+_, _≤_}
-use mathlib.Core.Path.{_≡_, refl, sym, ap, ap₂, _∙_}
-use mathlib.Core.Bool.{Bool, true, false, cond}
+use mathlib.Core.Path.{_≡_, sym, ap, ap₂, _∙_}
 use mathlib.Core.List.{List, [], _++_, append-assoc, append-nil}
 use native.Mathlib.Omega.{arith}
-use lib.Dec.{eqb}
 use lib.ListN.{length, take, drop, length-append, take-append-drop}
 use lib.Seq.{length-take-le, take-append-le, drop-at}
-use borrow.Author.Tests.{eqb-true}
 use Rattle.number.specs.Number.{Bytes}
-use Rattle.refusal.specs.Refusal.{refusalOf, refusalWith}
-use Rattle.format.specs.Blocks.{Block, image}
+use Rattle.refusal.specs.Refusal.{refusalOf}
+use Rattle.format.specs.Blocks.{image}
 use Rattle.format.specs.Readings.{Reading}
 use Rattle.block.specs.Order.{volumeLimit}
-use Rattle.texts.specs.Texts.{texts}
 use Rattle.volume.specs.Heading.{headerAnswer}
 use Rattle.volume.specs.Reading.{readFault, nextMark, readAnswer}
 use Rattle.volume.specs.Checking.{Checked, refused-at-a-block, after-the-header}
-use Rattle.volume.specs.Writing.{appendFault, appendAnswer}
 use Rattle.volume.specs.declared.Bookmark.{Bookmark}
 use Rattle.volume.specs.declared.Found.{Found}
 use Rattle.volume.specs.declared.HeaderAnswer.the-variants as head
 use Rattle.volume.specs.declared.ReadAnswer.{ReadAnswer}
 use Rattle.volume.specs.declared.ReadAnswer.the-variants as read
 use Rattle.volume.specs.declared.Verdict.the-variants as verdict
-use Rattle.volume.specs.declared.WriteAnswer.the-variants.{Next, Refused}
+use Rattle.volume.specs.declared.WriteAnswer.the-variants.{Refused}
 use Rattle.volume.proofs.Steps.{Answers, ends, finds, refuses, answers}
-use Rattle.volume.proofs.OneCall.{after, Hands, read-complete, AtEnd, end-sound}
+use Rattle.volume.proofs.OneCall.{Hands, read-complete, AtEnd, end-sound}
 use Rattle.volume.proofs.Checked.{checked-exactly}
 use Rattle.claims.specs.Library.{ours}
 use Rattle.claims.specs.Torn.{TornAppend, TornClaim}
-use Rattle.claims.proofs.Appending.{Admitted, append-sound}
+use Rattle.claims.proofs.Appending.{Admitted, append-sound, append-accepted}
 use Rattle.claims.proofs.Demand3Reading.{given}
 use Rattle.claims.proofs.Alike.{header-alike}
 use Rattle.claims.proofs.Passing.{Passes, calls-pass, checked-past, passes-on}
 use Rattle.claims.proofs.CutShort.{cut-refused}
 
--- an append that answers a bookmark has no fault
-accepted-append : (room : ℕ) (mark next : Bookmark) (block : Block) → appendAnswer room mark block ≡ Next next
-    → appendFault room mark block ≡ 0
-unfolding appendAnswer
-accepted-append room mark next block = go (eqb (appendFault room mark block) 0) refl
-  where
-    go : (sound : Bool) → eqb (appendFault room mark block) 0 ≡ sound
-        → cond sound (Next (after mark block)) (Refused (refusalWith (appendFault room mark block) (texts block))) ≡ Next next
-        → appendFault room mark block ≡ 0
-    go true e q = eqb-true _ _ e
-    go false e q = let z : _≡_ {A = ℕ} 0 1 = cc in absurd (omega arith)
-
--- nor has a reading that answers a block
+-- a reading that answers a block has no fault
 found-sound : (volume : List ℕ) (mark : Bookmark) (found : Found) → readAnswer volume mark ≡ read.Found found → readFault volume mark ≡ 0
 found-sound volume mark found = go (answers volume mark)
   where
@@ -70,7 +53,7 @@ module _ (volume : List ℕ) (reading : Reading) (torn : List ℕ) (b : Bytes vo
   off = drop (t .stored) new
 
   admitted : Admitted (t .room) (t .end) (t .block)
-  admitted = append-sound (t .room) (t .end) (t .block) (t .sized) (accepted-append (t .room) (t .end) (t .next) (t .block) (t .appended))
+  admitted = append-sound (t .room) (t .end) (t .block) (t .sized) (append-accepted (t .room) (t .end) (t .next) (t .block) (t .appended) .0)
 
   pub at-end : AtEnd volume (t .end)
   at-end = end-sound volume (t .end) (calls-pass (t .read .blocks) .1)
