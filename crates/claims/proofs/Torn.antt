@@ -20,7 +20,6 @@ use Rattle.volume.specs.declared.HeaderAnswer.the-variants as head
 use Rattle.volume.specs.declared.ReadAnswer.{ReadAnswer}
 use Rattle.volume.specs.declared.ReadAnswer.the-variants as read
 use Rattle.volume.specs.declared.Verdict.the-variants as verdict
-use Rattle.volume.specs.declared.WriteAnswer.the-variants.{Refused}
 use Rattle.volume.proofs.Steps.{Answers, ends, finds, refuses, answers}
 use Rattle.volume.proofs.OneCall.{Hands, read-complete, AtEnd, end-sound}
 use Rattle.volume.proofs.Checked.{checked-exactly}
