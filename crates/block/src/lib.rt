@@ -6,6 +6,8 @@
 // Each kind of block has a file, with its checks, its decoding and its end; `request` calls the checks of an inode's n bytes,
 // which are the same in writing. `limits` has the limits of a volume and of a table.
 // `tables` is empty, or the tables of crc32: filled once by a walk and lent to every block. `lending` has what lenders share.
+#![tactic(auto)]
+
 mod data;
 pub mod inode;
 pub mod lending;

@@ -2,6 +2,8 @@
 //
 // Public calls: `pair`, and `refusal_of` for the number of its answer. Both volumes are checked whole before their headers are compared.
 // Callers: exchange, for whoever keeps copies of sets and wants to know that no volume is missing or from another set.
+#![tactic(auto)]
+
 ghost use Rattle.std.specs.Prelude.{◌≡◌, suc, eqb};
 ghost use Rattle.volume.specs.Heading.{header_fault, sequence_of};
 ghost use Rattle.chain.specs.Pairing.{follows, pair_answer, refusal_in};

@@ -2,6 +2,8 @@
 //
 // Calls: `checksum_alone`; `checksum_lent`, which lends tables filled for the call; `checksum_of_parts`, which fills them once
 // for many checksums, as a walk over blocks does.
+#![tactic(auto)]
+
 ghost use Rattle.std.specs.Prelude.{◌≡◌, ◌/◌, ◌<◌, length};
 ghost use Rattle.crc32.specs.Crc.{crc};
 ghost use Rattle.crc32.specs.inner.Tables.{crc_rows};

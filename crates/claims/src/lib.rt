@@ -3,3 +3,4 @@
 //
 // There is no code here, and no crate calls it. specs/ has the statements, each for a reader who knows the demand and not the
 // proofs; proofs/ has the proofs.
+#![tactic(auto)]

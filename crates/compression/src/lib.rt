@@ -5,6 +5,8 @@
 //
 // The constants K are copied once for each call and lent to all its blocks, and so is the room for the message schedule: a constant
 // that is indexed where it is used would be copied for each block.
+#![tactic(auto)]
+
 mod functions;
 mod rounds;
 mod schedule;

@@ -5,6 +5,8 @@
 // to the end of its folder, and behind those of all links a 0. A link's count with a level more follows from the count of what it holds
 // and from that of the next link, which stands behind it: so a level is counted from the last link to the first.
 // Call: `count_lines`; the crate tree makes it before a line is stored.
+#![tactic(auto)]
+
 ghost use Rattle.std.specs.Prelude.{◌≡◌, true, [], ◌+◌, ◌<◌, ◌≤◌, length};
 ghost use Rattle.folders.specs.Lines.{levels, each, entry_lines};
 ghost use Rattle.folders.specs.inner.Folders.{siblings, Indexed};

@@ -6,6 +6,8 @@
 //
 // Few bytes go through the register one after the other, or sixteen at a time where tables are lent. Of many bytes 300 are
 // left over by exclusive ors alone, which go through it in their place.
+#![tactic(auto)]
+
 ghost use Rattle.std.specs.Prelude.{◌≡◌, ◌*◌, length, take};
 ghost use mathlib.Core.List.{foldl};
 ghost use Rattle.std.specs.Int.Bits.{bit_xor};

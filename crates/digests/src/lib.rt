@@ -4,6 +4,8 @@
 // caller lends again to the next call. It is taken from them as it stands, also where the caller made it up. Each call answers the
 // number of its refusal; beside one it changes no byte.
 // Caller: exchange.
+#![tactic(auto)]
+
 ghost use Rattle.std.specs.Prelude.{◌≡◌, ◌+◌, ◌≤◌, length};
 ghost use mathlib.Core.List.{[], ◌∷◌, foldl};
 ghost use Rattle.number.specs.Number.{put};

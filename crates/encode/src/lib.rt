@@ -3,6 +3,8 @@
 // Calls: write_header, write_inode, write_link, write_unlink, write_xattr, write_removed_xattr, write_data, write_rename,
 // write_table. Crate `volume` calls them after all its checks, so each requires that its image fits the buffer and that
 // each length fits its field. Every byte outside the image stays as it was.
+#![tactic(auto)]
+
 ghost use Rattle.std.specs.Prelude.{◌≡◌, [], ◌∷◌, ◌++◌, ◌+◌, ◌≤◌, ◌<◌, length};
 ghost use Rattle.number.specs.Number.{le_bytes, part, put};
 ghost use Rattle.crc32.specs.Crc.{crc};

@@ -7,6 +7,8 @@
 // `checking` has the check of a whole volume, `walking` the header, the blocks, the links and the extents one by one, `places`
 // positions and runs, `sources` the fetching of bytes, `writing` the writing of a header and the appends, `digesting` SHA-256,
 // `pairs` the check of a pair of volumes, `repairs` the repair of a volume whose end is cut off, and `trees` the listing of a tree.
+#![tactic(auto)]
+
 pub mod checking;
 pub mod digesting;
 pub mod pairs;

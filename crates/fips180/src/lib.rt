@@ -2,6 +2,8 @@
 // digests. No code but the type of eight words.
 // Cited by compression, sha256, chain and claims.
 // Eight words: a hash value, whose words FIPS 180-4 numbers from 0 to 7, or the working variables a to h.
+#![tactic(auto)]
+
 #[derive(Drop)]
 pub struct Words {
     pub a: u32,

@@ -3,6 +3,8 @@
 // The links are gone through once, from the last to the first. `heads` has of every folder met so far the link that now stands first in
 // it, sorted by folder, so that a folder is found by halving. specs/Lines.antt says what the lines of a tree are.
 // Call: `index_all`; the crate tree makes it, and lines and counts go by what it makes.
+#![tactic(auto)]
+
 ghost use Rattle.std.specs.Prelude.{◌≡◌, ◌&&◌, ◌+◌, ◌<◌, ◌≤◌, ltb, eqb, length, get_or};
 ghost use Rattle.order.specs.Order.{Placed};
 ghost use Rattle.folders.specs.inner.Folders.{parent_of, NextIn, Chained, Opened, Sorted, Heads, Indexed};

@@ -3,6 +3,8 @@
 // so is for its callers to prove, here is the division alone. It needs no table, and a byte waits only for bytes 145
 // places and more before it, so the compiler takes 16 bytes at a time.
 // Internal: `fold` writes the 300 bytes into a lent slice. No public call.
+#![tactic(auto)]
+
 ghost use Rattle.std.specs.Prelude.{◌≡◌, ◌-◌, ◌≤◌, ◌<◌, length, take, drop, replicate};
 ghost use mathlib.Core.List.{foldl};
 ghost use Rattle.folding.specs.inner.Buffer.{Holds};

@@ -2,6 +2,7 @@
 //
 // There is no code here. The types below are those of the fields that code and definitions share; specs/ has the
 // definitions: Layout, Extents, Blocks, Headers and Readings, in this order. Every other crate's contracts rest on them.
+#![tactic(auto)]
 
 // A position in a file, counted in bytes. A counter of its own kind: it never stands in for a physical offset.
 #[derive(Drop)]

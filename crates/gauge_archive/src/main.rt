@@ -2,6 +2,8 @@
 // three arguments they are written to files of these names. What the volume check answers of each is printed in any case.
 //
 // The gauge's file is inode 7. Its current version stands in the last volume and is stored in all three.
+#![tactic(auto)]
+
 mod first;
 mod output;
 mod second;

@@ -3,6 +3,8 @@
 //
 // The links of a folder are gone through in a loop, so that the calls are never deeper than the levels.
 // Call: `folder`; the crate tree makes it once it knows that every line can be given.
+#![tactic(auto)]
+
 ghost use Rattle.std.specs.Prelude.{◌≡◌, ◌*◌, ◌-◌, ◌<◌, ◌≤◌, length};
 ghost use Rattle.folders.specs.Lines.{levels, each, entry_lines};
 ghost use Rattle.folders.specs.inner.Folders.{siblings, Indexed};

@@ -4,6 +4,8 @@
 // Public call: list. A volume of more than 65,536 bytes is listed as refused; a room that is too small stays as it was.
 // The program hdrfs_list calls it.
 // `tables` is empty, or the tables of crc32: filled once and lent to both walks, for the header and every block.
+#![tactic(auto)]
+
 mod text;
 
 ghost use Rattle.std.specs.Prelude.{◌≡◌, ◌+◌, ◌≤◌, length};

@@ -3,6 +3,8 @@
 // Public calls: position and runs in `query`, fetch_refusal and fetch in `bytes`. The converter calls them. `faults` has what
 // a lookup is refused for, in order, and `presence` the tests of the volumes and ranges that a file's extents name.
 // Each checks one block or two headers, so it lends no tables for their checksums.
+#![tactic(auto)]
+
 pub mod bytes;
 mod faults;
 mod presence;

@@ -1,5 +1,7 @@
 // Lookups in the sample volume gauge.vol: single positions, ranges with more and with less room, and stored bytes. Then lookups
 // at blocks with a text that is not UTF-8.
+#![tactic(auto)]
+
 use format::{Logical, Physical};
 use lookup::{PositionAnswer, RunsAnswer};
 use printing::{load, print_number, print_pair, print_refusal, print_word};

@@ -3,6 +3,8 @@
 // Public calls: read_u8 to read_u64, write_u8 to write_u64, write_bytes, same_bytes. All are total: a read past the end
 // takes missing bytes as 0, and a write that would run past the end changes nothing. `part_of` is total too, and internal.
 // Every crate that reads or writes a field of a volume calls them.
+#![tactic(auto)]
+
 ghost use Rattle.std.specs.Prelude.{◌≡◌, ◌+◌, ◌-◌, ◌^◌, ◌≤◌, ◌<◌, length, drop};
 ghost use Rattle.number.specs.Number.{le, le_bytes, part, number_at, put};
 ghost use Rattle.number.specs.inner.Same.{same_bytes};

@@ -4,6 +4,8 @@
 // the answer of a header's writer or an append, each by a definition in specs/. They stand apart from the calls that answer with them
 // because a crate is checked as a whole, and all together took more than a minute.
 // Caller: exchange, which exports the calls.
+#![tactic(auto)]
+
 pub mod blocks;
 pub mod marks;
 pub mod writing;

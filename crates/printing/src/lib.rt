@@ -1,5 +1,7 @@
 // What the sample programs share: words, numbers, refusals, bookmarks, appends and readings on standard output, and files read
 // whole.
+#![tactic(auto)]
+
 pub mod bookmarks;
 
 ghost use Rattle.io.specs.Counts.{IsPrefixLen};

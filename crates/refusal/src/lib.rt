@@ -3,6 +3,8 @@
 //
 // Every crate whose calls can refuse takes the numbers from here, and makes its refusals by `refuse` or `refuse_text`. `bad_text`
 // and `bad_of_two` find the first fault in texts; links does so in the names of a table.
+#![tactic(auto)]
+
 ghost use Rattle.std.specs.Prelude.{◌≡◌, [], ◌∷◌};
 ghost use Rattle.refusal.specs.Refusal.{refusal_of, refusal_at};
 ghost use Rattle.refusal.specs.inner.FirstBad.{first_bad};

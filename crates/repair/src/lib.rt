@@ -2,6 +2,8 @@
 //
 // Public call: `repair`. It changes nothing: whoever calls it copies the beginning that it answers. The check is all the work.
 // Callers: exchange, for whoever has a file that ends too early and wants its whole blocks back.
+#![tactic(auto)]
+
 ghost use Rattle.std.specs.Prelude.{◌≡◌};
 ghost use Rattle.repair.specs.Repairing.{is_torn, repair_answer};
 

@@ -4,6 +4,8 @@
 // its contract can say two things of it: the answer is its first fault, or 0; and it is sized, whether it is refused or not,
 // which the types of the arguments give. Crate `volume` makes the call between the checks of the place and those of time and
 // room. A data block has no call here, since a payload has no checks.
+#![tactic(auto)]
+
 ghost use Rattle.std.specs.Prelude.{◌≡◌};
 ghost use Rattle.checks.specs.Checks.{first_fault};
 ghost use Rattle.format.specs.Blocks.{Inode, Link, Unlink, Xattr, RemovedXattr, Rename, Table};

@@ -3,6 +3,8 @@
 // `locate` says where a position is stored, and `range` stores the runs of a range of positions in a list that the caller
 // lends. Both are internal: the crate lookup calls them once it has checked the extents. A range query costs about as much as
 // sorting the extents, and after that the same for each run, however long the runs are and however many copies a block has.
+#![tactic(auto)]
+
 ghost use Rattle.std.specs.Prelude.{◌≡◌, true, false, ◌+◌, ◌*◌, ◌<◌, ◌≤◌, min, length, take};
 ghost use Rattle.number.specs.Number.{put};
 ghost use Rattle.format.specs.Extents.{top};

@@ -1,4 +1,6 @@
 // Runs vectors from outside against the library and prints what it answers; the file stdout has what it must print.
+#![tactic(auto)]
+
 mod bad_texts;
 mod bookmarks;
 mod characters;

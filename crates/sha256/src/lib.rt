@@ -3,6 +3,8 @@
 // Public calls: `sha256` of bytes in one call; `start`, `feed` and `finish` for bytes that come in parts, cut anywhere. All are total: a
 // state is taken as it stands, also one that a caller makes up, and more bytes in all than a volume may have are refused.
 // Callers: chain, exchange, and whoever writes the header of a following volume.
+#![tactic(auto)]
+
 mod big_endian;
 mod feeding;
 mod finishing;

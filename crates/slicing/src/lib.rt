@@ -3,6 +3,8 @@
 // It knows no polynomial: the caller writes the first row, `fill_rows` makes the fifteen others from it, and `run` takes
 // bytes by them. The rows are lent, since an array of constants would be built anew at every use. Both calls are internal:
 // `run` requires rows that are filled from a linear row (specs/inner/Slicing.antt). They are meant for the crate crc32.
+#![tactic(auto)]
+
 ghost use Rattle.std.specs.Prelude.{◌≡◌, ◌≤◌, ◌<◌, length, get_or};
 ghost use mathlib.Core.List.{foldl};
 ghost use Rattle.slicing.specs.inner.Slicing.{step, zeros, rows_from, first_row, Rows};

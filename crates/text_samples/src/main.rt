@@ -1,5 +1,7 @@
 // Appends of every kind of block that has a text, with texts that are not UTF-8, into a buffer with room for each: which text is the
 // first that is bad, and where in it the fault begins. With them are refusals before and after this one.
+#![tactic(auto)]
+
 use printing::bookmarks::{MOST_BLOCKS, onward, print_mark};
 use printing::print_word;
 use volume::{Bookmark, LastTime};

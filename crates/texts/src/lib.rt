@@ -3,6 +3,8 @@
 //
 // All calls are internal: `refusal_at` for the block at an offset of a volume, which the reader and the lookups call, and the others
 // for a block that an append is asked for. The texts are looked at only where the number is 10, so a sound block costs nothing here.
+#![tactic(auto)]
+
 mod standing;
 
 ghost use Rattle.std.specs.Prelude.{◌≡◌, [], ◌∷◌};

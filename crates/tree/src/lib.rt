@@ -4,6 +4,8 @@
 // Public call: `tree`. Callers: exchange, for mirrors that show or compare what an archive holds.
 // `table` lends the arrays for the links: crate folders makes an index of them, counts finds out whether every line can be given, and
 // lines gives them.
+#![tactic(auto)]
+
 mod table;
 
 ghost use Rattle.std.specs.Prelude.{◌≡◌, length};

@@ -2,6 +2,8 @@
 // `well_formed_len` answers how many octets from the start of a text on are well-formed, which is also where the first
 // ill-formed sequence starts. `is_text` answers whether all of the text is well-formed.
 // Block readers and writers call them on the names, paths and link targets of a volume, each a part of it.
+#![tactic(auto)]
+
 ghost use Rattle.std.specs.Prelude.{◌≡◌, true, cond, [], ◌∷◌, ◌<◌, ◌≤◌, length, drop, get_or};
 ghost use Rattle.utf8.specs.Ascii.{AsciiRun};
 ghost use Rattle.utf8.specs.Grammar.{◌to◌, tail};

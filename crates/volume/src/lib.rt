@@ -4,6 +4,8 @@
 // bookmark that append a block: append_inode, append_link, append_unlink, append_xattr, append_removed_xattr,
 // append_data, append_rename, append_table.
 // `tables` is empty, or the tables of crc32: filled once by a walk and lent to the header and every block. A single call lends none.
+#![tactic(auto)]
+
 pub mod checking;
 pub mod heading;
 pub mod reading;

@@ -1,6 +1,8 @@
 // A volume with a block of every kind, written afresh into a buffer that it fills, with refused calls among the accepted
 // ones. The bytes are then compared with those of all_kinds.vol, which was made from the layouts by other means, and listed.
 // A second volume has two blocks at one time, and a third one more than can be counted.
+#![tactic(auto)]
+
 mod calls;
 
 use calls::{FOLDER, REGULAR, SYMBOLIC_LINK, at, compare, header, nowhere};
