@@ -30,14 +30,14 @@ use limits::{HEADER_LEN, VOLUME_LIMIT};
 use refusal::{CUT_SHORT, ID_UNKNOWN, OUT_OF_PLACE, TOO_LARGE};
 
 // A part of the volume: where it begins and how long it is.
-#[derive(Drop)]
+#[derive(Clone, Copy)]
 pub struct Part {
     pub offset: usize,
     pub len: usize,
 }
 
 // The fields of an inode block. The n bytes are a symbolic link's target or a regular file's list of extents.
-#[derive(Drop)]
+#[derive(Clone, Copy)]
 pub struct InodeBlock {
     pub number: u64,
     pub time: u64,
@@ -53,7 +53,7 @@ pub struct InodeBlock {
 }
 
 // The fields of a link or an unlink block.
-#[derive(Drop)]
+#[derive(Clone, Copy)]
 pub struct LinkBlock {
     pub time: u64,
     pub child: u64,
@@ -61,7 +61,7 @@ pub struct LinkBlock {
     pub name: Part,
 }
 
-#[derive(Drop)]
+#[derive(Clone, Copy)]
 pub struct XattrBlock {
     pub time: u64,
     pub number: u64,
@@ -69,20 +69,20 @@ pub struct XattrBlock {
     pub value: Part,
 }
 
-#[derive(Drop)]
+#[derive(Clone, Copy)]
 pub struct RemovedXattrBlock {
     pub time: u64,
     pub number: u64,
     pub name: Part,
 }
 
-#[derive(Drop)]
+#[derive(Clone, Copy)]
 pub struct DataBlock {
     pub time: u64,
     pub payload: Part,
 }
 
-#[derive(Drop)]
+#[derive(Clone, Copy)]
 pub struct RenameBlock {
     pub time: u64,
     pub old: Part,
@@ -90,14 +90,14 @@ pub struct RenameBlock {
 }
 
 // The links stand one after the other in `links`.
-#[derive(Drop)]
+#[derive(Clone, Copy)]
 pub struct TableBlock {
     pub count: u64,
     pub links: Part,
 }
 
 // A block, with its fields and the places of its variable parts.
-#[derive(Drop)]
+#[derive(Clone, Copy)]
 pub enum Block {
     Inode(InodeBlock),
     Link(LinkBlock),

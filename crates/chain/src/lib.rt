@@ -14,7 +14,7 @@ use volume::heading::{file_system_id, previous_hash};
 use volume::{Rejected, Verdict};
 
 // The answer for a pair of volumes. A volume that is refused comes with what the check of it alone tells.
-#[derive(Drop)]
+#[derive(Clone, Copy)]
 pub enum Pairing {
     Follows,
     FirstRefused(Rejected),

@@ -21,7 +21,7 @@ pub mod writing;
 
 // What the check of a whole volume answers: hdrfs_checked.
 #[repr(C)]
-#[derive(Drop)]
+#[derive(Clone, Copy)]
 pub struct CheckNumbers {
     pub refusal: u64,
     pub text: u64,
@@ -35,7 +35,7 @@ pub struct CheckNumbers {
 
 // What reading a header answers: hdrfs_heading.
 #[repr(C)]
-#[derive(Drop)]
+#[derive(Clone, Copy)]
 pub struct HeadingNumbers {
     pub refusal: u64,
     pub text: u64,
@@ -49,7 +49,7 @@ pub struct HeadingNumbers {
 
 // What reading a link of a table answers: hdrfs_link_entry.
 #[repr(C)]
-#[derive(Drop)]
+#[derive(Clone, Copy)]
 pub struct LinkNumbers {
     pub missing: u64,
     pub child: u64,
@@ -61,7 +61,7 @@ pub struct LinkNumbers {
 
 // What reading an extent of a file answers: hdrfs_extent_entry.
 #[repr(C)]
-#[derive(Drop)]
+#[derive(Clone, Copy)]
 pub struct ExtentNumbers {
     pub volume: u64,
     pub start: u64,
@@ -75,7 +75,7 @@ pub struct ExtentNumbers {
 
 // What looking up a position answers: hdrfs_place.
 #[repr(C)]
-#[derive(Drop)]
+#[derive(Clone, Copy)]
 pub struct PlaceNumbers {
     pub refusal: u64,
     pub text: u64,
@@ -87,7 +87,7 @@ pub struct PlaceNumbers {
 
 // What a range query answers beside the runs: hdrfs_run_count.
 #[repr(C)]
-#[derive(Drop)]
+#[derive(Clone, Copy)]
 pub struct RunCountNumbers {
     pub refusal: u64,
     pub text: u64,
@@ -97,7 +97,7 @@ pub struct RunCountNumbers {
 
 // Which of two volumes has the bytes: hdrfs_source.
 #[repr(C)]
-#[derive(Drop)]
+#[derive(Clone, Copy)]
 pub struct SourceNumbers {
     pub refusal: u64,
     pub text: u64,
@@ -107,7 +107,7 @@ pub struct SourceNumbers {
 
 // What the check of a pair of volumes answers: hdrfs_paired.
 #[repr(C)]
-#[derive(Drop)]
+#[derive(Clone, Copy)]
 pub struct PairNumbers {
     pub refusal: u64,
     pub text: u64,
@@ -118,7 +118,7 @@ pub struct PairNumbers {
 
 // What repairing a volume answers: hdrfs_repaired.
 #[repr(C)]
-#[derive(Drop)]
+#[derive(Clone, Copy)]
 pub struct RepairNumbers {
     pub refusal: u64,
     pub text: u64,
@@ -128,7 +128,7 @@ pub struct RepairNumbers {
 
 // What listing the tree of a link table answers beside the lines: hdrfs_lines.
 #[repr(C)]
-#[derive(Drop)]
+#[derive(Clone, Copy)]
 pub struct LineNumbers {
     pub refusal: u64,
     pub text: u64,

@@ -4,7 +4,7 @@
 // Eight words: a hash value, whose words FIPS 180-4 numbers from 0 to 7, or the working variables a to h.
 #![tactic(auto)]
 
-#[derive(Drop)]
+#[derive(Clone, Copy)]
 pub struct Words {
     pub a: u32,
     pub b: u32,

@@ -5,15 +5,15 @@
 #![tactic(auto)]
 
 // A position in a file, counted in bytes. A counter of its own kind: it never stands in for a physical offset.
-#[derive(Drop)]
+#[derive(Clone, Copy)]
 pub struct Logical(pub u64);
 
 // An offset in a volume, counted in bytes.
-#[derive(Drop)]
+#[derive(Clone, Copy)]
 pub struct Physical(pub u64);
 
 // One extent of a regular file, its eight fields in layout order.
-#[derive(Drop)]
+#[derive(Clone, Copy)]
 pub struct Extent {
     pub volume: u64,
     pub start: Physical,

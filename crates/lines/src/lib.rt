@@ -16,7 +16,7 @@ use refusal::{ROOM_TOO_SMALL, TOO_DEEP};
 pub const LEVELS: usize = 32;
 
 // How far a listing has come: the lines that are given, and the number of the refusal of the next one, or 0.
-#[derive(Drop)]
+#[derive(Clone, Copy)]
 pub struct Given {
     pub lines: usize,
     pub fault: u64,

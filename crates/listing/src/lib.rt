@@ -24,7 +24,7 @@ use volume::{Bookmark, HeaderAnswer, ReadAnswer};
 const LIST_LIMIT: usize = 65536;
 
 // How long the text is, or why there is none.
-#[derive(Drop)]
+#[derive(Clone, Copy)]
 pub enum ListAnswer {
     Written(usize),
     Refused(Refusal),

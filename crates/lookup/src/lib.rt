@@ -14,14 +14,14 @@ use format::Physical;
 use refusal::Refusal;
 
 // A stored byte: the volume that holds it, and where.
-#[derive(Drop)]
+#[derive(Clone, Copy)]
 pub struct Stored {
     pub volume: u64,
     pub offset: Physical,
 }
 
 // What stands at a position.
-#[derive(Drop)]
+#[derive(Clone, Copy)]
 pub enum PositionAnswer {
     Hole,
     PastEnd,
@@ -30,7 +30,7 @@ pub enum PositionAnswer {
 }
 
 // How many runs a range has.
-#[derive(Drop)]
+#[derive(Clone, Copy)]
 pub enum RunsAnswer {
     Runs(u64),
     Refused(Refusal),

@@ -12,7 +12,7 @@ pub mod writing;
 
 // What reading a block answers: hdrfs_block.
 #[repr(C)]
-#[derive(Drop)]
+#[derive(Clone, Copy)]
 pub struct BlockNumbers {
     pub refusal: u64,
     pub text: u64,
@@ -46,7 +46,7 @@ pub struct BlockNumbers {
 
 // What writing a header or appending a block answers, the bookmark after it: hdrfs_written.
 #[repr(C)]
-#[derive(Drop)]
+#[derive(Clone, Copy)]
 pub struct MarkNumbers {
     pub refusal: u64,
     pub text: u64,

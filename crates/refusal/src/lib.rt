@@ -55,7 +55,7 @@ pub const TOO_DEEP: u64 = 24;
 
 // Why a call refuses: the number of the list of refusals. Where it is 10, `text` says which text of the block is the first that is
 // not UTF-8, counted from 0, and `start` where in that text the first ill-formed sequence starts; else both are 0.
-#[derive(Drop)]
+#[derive(Clone, Copy)]
 pub struct Refusal {
     pub number: u64,
     pub text: u64,
@@ -64,7 +64,7 @@ pub struct Refusal {
 
 // Among several texts: the first that is not UTF-8, and where in it the first ill-formed sequence starts. Where there is none, `text`
 // is the number of the texts and `start` is 0.
-#[derive(Drop)]
+#[derive(Clone, Copy)]
 pub struct BadText {
     pub text: u64,
     pub start: u64,

@@ -16,7 +16,7 @@ use volume::checking::check;
 const SEQUENCE_AT: usize = 36;
 
 // The length of the longest beginning that is an accepted volume, or why nothing is repaired.
-#[derive(Drop)]
+#[derive(Clone, Copy)]
 pub enum RepairAnswer {
     Length(usize),
     Refused(Refusal),

@@ -28,21 +28,21 @@ const HOLE: u64 = 0;
 const STORED: u64 = 1;
 
 // Where a position is stored: nowhere, or in a volume at an offset.
-#[derive(Drop)]
+#[derive(Clone, Copy)]
 pub enum Place {
     Hole,
     Stored(u64, Physical),
 }
 
 // How many runs a range has, or that there is no room for their numbers.
-#[derive(Drop)]
+#[derive(Clone, Copy)]
 pub enum Counted {
     Runs(u64),
     RoomTooSmall,
 }
 
 // One run, its five numbers in order.
-#[derive(Drop)]
+#[derive(Clone, Copy)]
 struct Run {
     start: Logical,
     len: u64,

@@ -19,7 +19,7 @@ use refusal::TOO_LARGE;
 
 // A digest under way: the hash value so far, how many bytes were fed, and the held bytes. As many of these are in use, from the first
 // on, as the number's remainder by 64.
-#[derive(Drop)]
+#[derive(Clone, Copy)]
 pub struct Digest {
     pub words: Words,
     pub fed: u64,
@@ -27,14 +27,14 @@ pub struct Digest {
 }
 
 // The state after a part, and 0; or the refusal's number, and the state as it was.
-#[derive(Drop)]
+#[derive(Clone, Copy)]
 pub struct Fed {
     pub refusal: u64,
     pub state: Digest,
 }
 
 // The digest, and 0; or the refusal's number, and zeros.
-#[derive(Drop)]
+#[derive(Clone, Copy)]
 pub struct Finished {
     pub refusal: u64,
     pub digest: [u8; 32],

@@ -16,7 +16,7 @@ use table::list_table;
 use volume::{Bookmark, ReadAnswer};
 
 // How many lines a listing has.
-#[derive(Drop)]
+#[derive(Clone, Copy)]
 pub enum TreeAnswer {
     Lines(u64),
     Refused(Refusal),

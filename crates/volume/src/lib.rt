@@ -15,14 +15,14 @@ use block::Block;
 use refusal::Refusal;
 
 // The last time in the volume so far, if there is one.
-#[derive(Drop)]
+#[derive(Clone, Copy)]
 pub enum LastTime {
     Never,
     At(u64),
 }
 
 // A place in a volume at which a block is read or written, with what is known there: a bookmark.
-#[derive(Drop)]
+#[derive(Clone, Copy)]
 pub struct Bookmark {
     pub offset: usize,
     // Whether a link table is due here.
@@ -33,27 +33,27 @@ pub struct Bookmark {
 }
 
 // What a sound header gives.
-#[derive(Drop)]
+#[derive(Clone, Copy)]
 pub struct HeaderRead {
     pub sequence: u64,
     pub next: Bookmark,
 }
 
-#[derive(Drop)]
+#[derive(Clone, Copy)]
 pub enum HeaderAnswer {
     Accepted(HeaderRead),
     Refused(Refusal),
 }
 
 // A block that was read, its own number, and the bookmark after it.
-#[derive(Drop)]
+#[derive(Clone, Copy)]
 pub struct Found {
     pub block: Block,
     pub number: u64,
     pub next: Bookmark,
 }
 
-#[derive(Drop)]
+#[derive(Clone, Copy)]
 pub enum ReadAnswer {
     Found(Found),
     End,
@@ -62,28 +62,28 @@ pub enum ReadAnswer {
 
 // A volume that is accepted, and its end bookmark, whose number is that of the blocks after the header, the table
 // included.
-#[derive(Drop)]
+#[derive(Clone, Copy)]
 pub struct Accepted {
     pub sequence: u64,
     pub end: Bookmark,
 }
 
 // A volume that is refused: where the header or block at fault begins, and the blocks accepted before it.
-#[derive(Drop)]
+#[derive(Clone, Copy)]
 pub struct Rejected {
     pub refusal: Refusal,
     pub offset: usize,
     pub blocks: u64,
 }
 
-#[derive(Drop)]
+#[derive(Clone, Copy)]
 pub enum Verdict {
     Accepted(Accepted),
     Refused(Rejected),
 }
 
 // The bookmark after what was written, or the refusal.
-#[derive(Drop)]
+#[derive(Clone, Copy)]
 pub enum WriteAnswer {
     Next(Bookmark),
     Refused(Refusal),
