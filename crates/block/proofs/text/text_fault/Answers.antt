@@ -1,0 +1,55 @@
+-- The end's fault comes first; without one the text lies within the volume and decides.
+use Prim.Native.Nat.{◌≤◌, ◌+◌}
+use mathlib.Core.List.{[]}
+use native.Mathlib.Omega.{arith}
+use lib.ListN.{length}
+use Rattle.checks.proofs.Laws.{stopped}
+use Rattle.block.specs.inner.Parts.{sealed_order}
+use Rattle.block.proofs.Faults.{text_next}
+use Rattle.block.proofs.Passed.{end_whole}
+use Rattle.block.proofs.text.text_fault.Goals as goal
+
+pub returns-then-fault-ne0 : goal.returns-then-fault-ne0
+returns-then-fault-ne0 c =
+    let a = c.args in
+    stopped (sealed_order a.volume.now a.offset (a.from + a.len)) _ tt c.sealed_fault-fault.ensures c.if-fault-ne0.true
+
+pub overflow_add-from : goal.overflow_add-from
+overflow_add-from c =
+    let whole : let a = c.args in a.from + a.len + 4 ≤ length a.volume.now = let a = c.args in
+    end_whole a.volume.now a.offset (a.from + a.len) [] tt c.sealed_fault-fault.ensures c.if-fault-ne0.false in
+    omega (arith, whole)
+
+pub slice_bounds-is_text-end : goal.slice_bounds-is_text-end
+slice_bounds-is_text-end c =
+    let whole : let a = c.args in a.from + a.len + 4 ≤ length a.volume.now = let a = c.args in
+    end_whole a.volume.now a.offset (a.from + a.len) [] tt c.sealed_fault-fault.ensures c.if-fault-ne0.false in
+    omega (arith, whole)
+
+pub returns-then-not-is_text : goal.returns-then-not-is_text
+returns-then-not-is_text c =
+    let a = c.args in
+    text_next
+    (sealed_order a.volume.now a.offset (a.from + a.len))
+    a.volume.now
+    a.from
+    a.text
+    tt
+    c.sealed_fault-fault.ensures
+    c.if-fault-ne0.false
+    c.is_text.ensures
+    c.if-not-is_text.true
+
+pub returns : goal.returns
+returns c =
+    let a = c.args in
+    text_next
+    (sealed_order a.volume.now a.offset (a.from + a.len))
+    a.volume.now
+    a.from
+    a.text
+    tt
+    c.sealed_fault-fault.ensures
+    c.if-fault-ne0.false
+    c.is_text.ensures
+    c.if-not-is_text.false

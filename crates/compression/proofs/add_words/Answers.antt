@@ -1,0 +1,7 @@
+-- Word by word.
+use Rattle.fips180.specs.Hash.{added}
+use Rattle.compression.proofs.add_words.Goals as goal
+
+pub returns : goal.returns
+unfolding added
+returns c = cc

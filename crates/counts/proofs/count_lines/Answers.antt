@@ -1,0 +1,19 @@
+-- The counts with no level left are the tallies, so are those with all levels left, and the answer is that of the tally.
+use mathlib.Core.Path.{◌∙◌}
+use mathlib.Core.List.{[]}
+use native.Mathlib.Omega.{arith}
+use Rattle.counts.proofs.Tallies.{answer_all}
+use Rattle.counts.proofs.Counts.{bottom_counted}
+use Rattle.counts.proofs.count_lines.Goals as goal
+
+pub count_levels-requires : goal.count_levels-requires
+count_levels-requires c =
+    let x = c.requires.1.1.1 in
+    let none = c.count_none in
+    let k = none.auto.1.0 in
+    ((omega arith, c.requires.0.1), (x, bottom_counted _ _ _ _ x _ none.ensures))
+
+pub returns : goal.returns
+returns c =
+    let counted = c.count_levels.ensures c.args.first c.requires.1.0 in
+    c.answer_of.ensures ∙ answer_all _ [] _ _ c.requires.1.1.0 counted

@@ -1,0 +1,8 @@
+-- What sha256 answers is handed out.
+use Rattle.digests.proofs.Handed.{whole_handed}
+use Rattle.digests.proofs.whole.Goals as goal
+
+pub returns : goal.returns
+returns c =
+    let args = c.args in
+    whole_handed args.out.now args.bytes.now c.sha256.ensures c.hand_out.ensures

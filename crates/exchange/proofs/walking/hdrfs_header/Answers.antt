@@ -1,0 +1,12 @@
+-- Either answer becomes the numbers that `heading_numbers` gives it.
+use Rattle.exchange.specs.Walking.{heading_numbers}
+use Rattle.exchange.proofs.walking.hdrfs_header.Goals as goal
+
+pub returns-in-Accepted : goal.returns-in-Accepted
+unfolding heading_numbers
+returns-in-Accepted c =
+    rw (c.flag_number.ensures, ← c.read_header.ensures, c.header-1.given.1)
+
+pub returns-in-Refused : goal.returns-in-Refused
+unfolding heading_numbers
+returns-in-Refused c = rw (← c.read_header.ensures, c.refusal-1.given.1)

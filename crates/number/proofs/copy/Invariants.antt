@@ -1,0 +1,12 @@
+-- After `i` turns the first `i` bytes are laid over the buffer; after the last turn all are.
+use Prim.Native.Nat.{◌≤◌, ◌-◌}
+use mathlib.Core.Path.{◌≡◌}
+use lib.ListN.{length}
+use lib.Seq.{paste}
+use Rattle.number.proofs.copy.Given as goal
+
+abbrev pub invariant-loop-i : goal.invariant-loop-i
+invariant-loop-i l = (l.i ≤ length l.bytes) × ((length l.buf ≡ length l.initial.buf) × (l.buf ≡ paste l.initial.buf l.at l.bytes l.i))
+
+abbrev pub decreases-loop-i : goal.decreases-loop-i
+decreases-loop-i l = length l.bytes - l.i

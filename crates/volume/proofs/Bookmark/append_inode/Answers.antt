@@ -1,0 +1,40 @@
+-- The checks decide, by the laws that hold for every block; without a fault the image is written and the bookmark goes on.
+use mathlib.Core.Path.{refl}
+use native.Mathlib.Omega.{arith}
+use lib.ListN.{length}
+use Rattle.format.specs.Blocks.{Inode}
+use Rattle.volume.proofs.Writers.{Told, told, room_left, counted, refused, accepted}
+use Rattle.volume.proofs.Bookmark.append_inode.Goals as goal
+
+pub returns-then-fault-ne0 : goal.returns-then-fault-ne0
+returns-then-fault-ne0 c =
+    let here : let a = c.args in
+    Told a.buf.now a.self (Inode (record { inode = a.inode; time = a.time; mode = a.mode; uid = a.uid; gid = a.gid; atime = a.atime; mtime = a.mtime; ctime = a.ctime; btime = a.btime; size = a.size; rest = a.rest.now })) (length a.rest.now) c.append_fault-fault.result = let a = c.args in
+    told a.buf.now a.self (Inode (record { inode = a.inode; time = a.time; mode = a.mode; uid = a.uid; gid = a.gid; atime = a.atime; mtime = a.mtime; ctime = a.ctime; btime = a.btime; size = a.size; rest = a.rest.now }))
+    c.inode_fault-asked.ensures refl c.append_fault-fault.ensures in
+    refused here c.inode_refusal.ensures c.if-fault-ne0.true
+
+pub write_inode-requires : goal.write_inode-requires
+write_inode-requires c =
+    let here : let a = c.args in
+    Told a.buf.now a.self (Inode (record { inode = a.inode; time = a.time; mode = a.mode; uid = a.uid; gid = a.gid; atime = a.atime; mtime = a.mtime; ctime = a.ctime; btime = a.btime; size = a.size; rest = a.rest.now })) (length a.rest.now) c.append_fault-fault.result = let a = c.args in
+    told a.buf.now a.self (Inode (record { inode = a.inode; time = a.time; mode = a.mode; uid = a.uid; gid = a.gid; atime = a.atime; mtime = a.mtime; ctime = a.ctime; btime = a.btime; size = a.size; rest = a.rest.now }))
+    c.inode_fault-asked.ensures refl c.append_fault-fault.ensures in
+    omega (arith, room_left here c.if-fault-ne0.false)
+
+pub overflow_add-offset : goal.overflow_add-offset
+overflow_add-offset c = let f = c in omega (arith, room_left (here f.before) f.if1.false)
+
+pub overflow_add-offset-2 : goal.overflow_add-offset-2
+overflow_add-offset-2 c = let f = c in omega (arith, room_left (here f.before) f.if1.false)
+
+pub mark_after-requires : goal.mark_after-requires
+mark_after-requires c = let f = c in counted (here f.before) f.if1.false
+
+pub returns : goal.returns
+returns c =
+    let here : let a = c.args in
+    Told a.buf.now a.self (Inode (record { inode = a.inode; time = a.time; mode = a.mode; uid = a.uid; gid = a.gid; atime = a.atime; mtime = a.mtime; ctime = a.ctime; btime = a.btime; size = a.size; rest = a.rest.now })) (length a.rest.now) c.append_fault-fault.result = let a = c.args in
+    told a.buf.now a.self (Inode (record { inode = a.inode; time = a.time; mode = a.mode; uid = a.uid; gid = a.gid; atime = a.atime; mtime = a.mtime; ctime = a.ctime; btime = a.btime; size = a.size; rest = a.rest.now }))
+    c.inode_fault-asked.ensures refl c.append_fault-fault.ensures in
+    accepted here c.if-fault-ne0.false c.write_inode.ensures c.mark_after.ensures
