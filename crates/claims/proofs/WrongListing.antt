@@ -28,5 +28,5 @@ invents_listed_blocks_lem claim =
     let room : length (of_bare claim).text ≡ 33 = ap length (text_is claim) in
     let wrote = ((of_bare claim).room_enough (replicate 100 0) (omega arith)).1 in
     let both = rw (text_is claim, bare_long) at wrote in
-    let digit : ◌≡◌ {A = ℕ} 55 48 = ap (λ (text : List ℕ). get_or text 31 0) both in
+    let digit : ◌≡◌ {A = ℕ} 55 48 = ap (λ (text : List ℕ). get_or text 31 0) {x = put (replicate 100 0) 0 (heading_line ++ end_line 80 7)} both in
     omega arith

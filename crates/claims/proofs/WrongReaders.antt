@@ -28,7 +28,7 @@ use Rattle.volume.specs.declared.Verdict.{Verdict}
 use Rattle.volume.specs.declared.Verdict.TheVariants as verdict
 use Rattle.claims.specs.Library.{ours}
 use Rattle.claims.specs.Demand3Reading.{Calls, ended, handed, RefusedAt, at-the-header, at-a-block}
-use Rattle.claims.specs.Demand3.{accepted, Demand3}
+use Rattle.claims.specs.Demand3.{Demand3}
 use Rattle.claims.specs.Wrong.{refuses_all, invents_blocks, seven_of, repeats_first, first_block, invents_blocks_before_faults, seven_before, hands_out_no_links, empty_part, without_length}
 use Rattle.claims.proofs.Demand3.{demand_3_holds}
 use Rattle.claims.proofs.Tried.{bare, bare_keeps, of_reading, whole, of_bare, two_given, tabled, tabled_header, link_bytes, tabled_keeps, tabled_small}

@@ -1,6 +1,6 @@
 -- Wrong repairs answer for small volumes what the claim does not allow: for a torn append another length than before it, for a damaged
 -- block and for a missing table a length at all. Assumes nothing.
-use Prim.Native.Nat.{ℕ, ◌+◌, ◌≤◌}
+use Prim.Native.Nat.{ℕ, ◌≤◌}
 use mathlib.Core.Path.{◌≡◌, refl, sym, ap}
 use mathlib.Core.Bool.{false}
 use mathlib.Core.List.{List, [], ◌∷◌, ◌++◌, append-nil}

@@ -20,7 +20,6 @@ use Rattle.volume.specs.declared.ReadAnswer.TheVariants as ReadAnswer
 use Rattle.folders.specs.Lines.{Line, line_numbers}
 use Rattle.tree.specs.Listing.{table_due}
 use Rattle.tree.specs.declared.TreeAnswer.{TreeAnswer}
-use Rattle.tree.specs.declared.TreeAnswer.TheVariants as TreeAnswer
 use Rattle.claims.specs.Library.{Library}
 
 -- A path down from a folder, by the places of its links among the table's links: the folder is the parent of the first link, and the
