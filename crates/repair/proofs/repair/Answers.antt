@@ -4,14 +4,14 @@ use Rattle.repair.proofs.repair.Goals as goal
 
 pub returns-in-Accepted : goal.returns-in-Accepted
 unfolding repair_answer repaired
-returns-in-Accepted c = rw (← c.check.ensures, c.enum_told-1.given.1)
+returns-in-Accepted c = rw (← c.check.ensures, c.in-Accepted.is)
 
 pub returns-then-is_torn : goal.returns-then-is_torn
 unfolding repair_answer repaired
 returns-then-is_torn c =
-    rw (← c.check.ensures, c.rejected-1.given.1, ← c.read_u64-sequence.ensures, ← c.is_torn.ensures, c.if-is_torn.true)
+    rw (← c.check.ensures, c.in-Refused.is, ← c.read_u64-sequence.ensures, ← c.is_torn.ensures, c.if-is_torn.true)
 
 pub returns-else-is_torn : goal.returns-else-is_torn
 unfolding repair_answer repaired
 returns-else-is_torn c =
-    rw (← c.check.ensures, c.rejected-1.given.1, ← c.read_u64-sequence.ensures, ← c.is_torn.ensures, c.if-is_torn.false)
+    rw (← c.check.ensures, c.in-Refused.is, ← c.read_u64-sequence.ensures, ← c.is_torn.ensures, c.if-is_torn.false)
