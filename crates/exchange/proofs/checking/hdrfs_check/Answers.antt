@@ -5,8 +5,8 @@ use Rattle.exchange.proofs.checking.hdrfs_check.Goals as goal
 pub returns-in-Accepted : goal.returns-in-Accepted
 unfolding check_numbers
 returns-in-Accepted c =
-    rw (c.timed_number.ensures, c.time_number.ensures, ← c.check.ensures, c.accepted-1.given.1)
+    rw (c.timed_number.ensures, c.time_number.ensures, ← c.check.ensures, c.in-Accepted.is)
 
 pub returns-in-Refused : goal.returns-in-Refused
 unfolding check_numbers
-returns-in-Refused c = rw (← c.check.ensures, c.rejected-1.given.1)
+returns-in-Refused c = rw (← c.check.ensures, c.in-Refused.is)

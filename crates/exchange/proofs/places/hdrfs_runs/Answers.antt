@@ -5,11 +5,9 @@ use Rattle.exchange.proofs.places.hdrfs_runs.Goals as goal
 pub returns-in-Runs : goal.returns-in-Runs
 unfolding run_count_numbers
 returns-in-Runs c =
-    let r = c.runs in
-    (rw (← r.ensures.0, c.count-1.given.1), r.ensures.1)
+    record { answer = rw (← c.runs.ensures.answer, c.in-Runs.is); room = c.runs.ensures.room }
 
 pub returns-in-Refused : goal.returns-in-Refused
 unfolding run_count_numbers
 returns-in-Refused c =
-    let r = c.runs in
-    (rw (← r.ensures.0, c.refusal-1.given.1), r.ensures.1)
+    record { answer = rw (← c.runs.ensures.answer, c.in-Refused.is); room = c.runs.ensures.room }

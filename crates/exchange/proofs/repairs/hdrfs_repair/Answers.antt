@@ -5,9 +5,9 @@ use Rattle.exchange.proofs.repairs.hdrfs_repair.Goals as goal
 pub returns-in-Length : goal.returns-in-Length
 unfolding repair_numbers
 returns-in-Length c =
-    rw (← c.repair.ensures, c.length-1.given.1)
+    rw (← c.repair.ensures, c.in-Length.is)
 
 pub returns-in-Refused : goal.returns-in-Refused
 unfolding repair_numbers
 returns-in-Refused c =
-    rw (← c.repair.ensures, c.refusal-1.given.1)
+    rw (← c.repair.ensures, c.in-Refused.is)

@@ -7,12 +7,12 @@ use Rattle.exchange.proofs.walking.hdrfs_link.Goals as goal
 
 pub overflow_add-result : goal.overflow_add-result
 overflow_add-result c =
-    omega (arith, answer_ends_within _ _ _ (sym c.link_from.ensures ∙ c.link-1.given.1))
+    omega (arith, answer_ends_within _ _ _ (sym c.link_from.ensures ∙ c.in-Found.is))
 
 pub returns-in-Found : goal.returns-in-Found
 unfolding link_numbers
-returns-in-Found c = rw (← c.link_from.ensures, c.link-1.given.1)
+returns-in-Found c = rw (← c.link_from.ensures, c.in-Found.is)
 
 pub returns-in-Missing : goal.returns-in-Missing
 unfolding link_numbers
-returns-in-Missing c = rw (← c.link_from.ensures, c.enum_told-1.given.1)
+returns-in-Missing c = rw (← c.link_from.ensures, c.in-Missing.is)

@@ -4,4 +4,4 @@ use Rattle.exchange.proofs.writing.hdrfs_append_table.Goals as goal
 pub returns : goal.returns
 returns c =
     let mark = c.bookmark_of-mark.ensures in
-    (rw (c.written_numbers.ensures, c.append_table.ensures.0, mark), rw (← mark) c.append_table.ensures.1.0)
+    record { answer = rw (c.written_numbers.ensures, c.append_table.ensures.answer, mark); buffer = rw (← mark) c.append_table.ensures.buffer }

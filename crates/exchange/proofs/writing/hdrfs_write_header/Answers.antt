@@ -3,5 +3,4 @@ use Rattle.exchange.proofs.writing.hdrfs_write_header.Goals as goal
 
 pub returns : goal.returns
 returns c =
-    let w = c.write_header in
-    (rw (c.written_numbers.ensures, w.ensures.0), w.ensures.1.0)
+    record { answer = rw (c.written_numbers.ensures, c.write_header.ensures.answer); buffer = c.write_header.ensures.buffer }
