@@ -109,6 +109,7 @@ listed_from : {m n low high : ℕ} {rest : List Range} {fs : List (List Range)} 
 listed_from (rise p q r) here = leb-true _ _ p
 listed_from {m} (rise {low = low} {high = high} p q r) (there l) =
     omega (arith, leb-true m low p, leb-true low high q, listed_from r l)
+listed_from {low = low} {high = high} {rest = rest} (done {m = m} {n = n} _) l = elim l [ ]
 
 module _ (lead : ℕ) (s : List ℕ) where
   -- no form begins with an octet below all of them, nor with one above
@@ -136,6 +137,7 @@ module _ (lead : ℕ) (s : List ℕ) where
   lead_of (rise {low = low} {high = high} p q r) (there l) u v =
       let b : high < lead = omega (arith, listed_from r l) in
       rw (above_range low high lead b) (lead_of r l u v)
+  lead_of {low = low} {high = high} {rest = rest} (done {m = m} {n = n} _) l u v = elim l [ ]
 
   -- the same of all forms of a character
   pub lead_of_form : {low high : ℕ} {rest : List Range} → Listed (low to high ∷ rest) forms → low ≤ lead → lead ≤ high
@@ -159,6 +161,7 @@ module _ (lead : ℕ) (s : List ℕ) where
 
 form_not_empty : {m n : ℕ} {fs : List (List Range)} → Rising m n fs → Listed [] fs → ⊥
 form_not_empty (rise p q r) (there l) = form_not_empty r l
+form_not_empty (done {m = m} {n = n} _) l = elim l [ ]
 
 pub char_complete : {octets : List ℕ} → Char octets → (s : List ℕ) → char_length (octets ++ s) ≡ length octets
 char_complete c s = go c.listed c.matches

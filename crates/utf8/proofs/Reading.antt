@@ -10,7 +10,7 @@ use native.Mathlib.Numerals.{add-one}
 use lib.Dec.{leb}
 use lib.ListN.{length, drop, get_or, length-drop, drop_of_length-le}
 use lib.Seq.{drop-drop, drop-cons}
-use borrow.Author.Rules.{zero≤}
+use Rattle.std.proofs.Common.{zero-le}
 use borrow.Author.Tests.{le-leb, lt-leb}
 use Rattle.utf8.specs.Ascii.{AsciiRun}
 use Rattle.utf8.specs.Grammar.{Range, ◌to◌, forms, Listed}
@@ -100,7 +100,7 @@ reached_one : (s : List ℕ) (i : ℕ) → Reached s i → i < length s → get_
 unfolding begins
 reached_one s i r h l =
     let u : get_or s i 0 ≤ 0x7F = omega arith in
-    reached_char s i 0 true r (char_of_form s i h utf8_1 zero≤ u true refl) refl
+    reached_char s i 0 true r (char_of_form s i h utf8_1 zero-le u true refl) refl
 
 pub reached_run : (s : List ℕ) (i j : ℕ) → Reached s i → AsciiRun s i j → Reached s j
 reached_run s i zero r a = let e : i ≡ 0 = omega (arith, a.rising) in rw e at r

@@ -4,7 +4,7 @@ use mathlib.Core.Path.{◌≡◌, refl, sym, ◌∙◌}
 use mathlib.Core.Logic.{◌↔◌, ◌⊎◌, inl, inr, ⊎_elim}
 use mathlib.Core.List.{List, [], ◌∷◌}
 use native.Mathlib.Omega.{arith}
-use borrow.Author.Rules.{zero≤}
+use Rattle.std.proofs.Common.{zero-le}
 use Rattle.utf8.specs.Grammar.{Range, ◌to◌, tail, forms, Matches, none, next, Listed, here, there, Char}
 use Rattle.utf8.specs.Scalar.{Scalar, Encodes, one, two, three, four}
 use Rattle.utf8.proofs.Forms.{utf8_1, utf8_2, utf8_3-E0, utf8_3-E1, utf8_3-ED, utf8_3-EE, utf8_4-F0, utf8_4-F1, utf8_4-F4}
@@ -32,7 +32,7 @@ module _ {low high least greatest : ℕ} (n : ℕ) where
       record { form = _; listed = l; matches = next h.0 h.1 (next h.2 h.3 (next t w (next u v none))) }
 
 encoding_is_char : (n : ℕ) (octets : List ℕ) → Scalar n → Encodes n octets → Char octets
-encoding_is_char n octets s (one p) = record { form = _; listed = utf8_1; matches = next zero≤ p none }
+encoding_is_char n octets s (one p) = record { form = _; listed = utf8_1; matches = next zero-le p none }
 encoding_is_char n octets s (two p q) =
     let a : 0xC2 ≤ 0xC0 + n / 64 = omega arith in
     let b : 0xC0 + n / 64 ≤ 0xDF = omega arith in
@@ -107,6 +107,7 @@ char_is_encoding octets (there (there (there (there (there here))))) m = three_o
 char_is_encoding octets (there (there (there (there (there (there here)))))) m = four_octets 0xF0 0xF0 0x90 0xBF (omega arith) (omega arith) m
 char_is_encoding octets (there (there (there (there (there (there (there here))))))) m = four_octets 0xF1 0xF3 0x80 0xBF (omega arith) (omega arith) m
 char_is_encoding octets (there (there (there (there (there (there (there (there here)))))))) m = four_octets 0xF4 0xF4 0x80 0x8F (omega arith) (omega arith) m
+char_is_encoding {form = form} octets (there (there (there (there (there (there (there (there (there l))))))))) m = elim l [ ]
 
 -- Octets are a character exactly if they encode a Unicode scalar value: no surrogate, no number above 0x10FFFF, and none
 -- in more octets than the table gives it.

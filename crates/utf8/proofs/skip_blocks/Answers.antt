@@ -1,6 +1,5 @@
 use Prim.Native.Nat.{◌+◌, ◌-◌}
 use native.Mathlib.Omega.{arith}
-use borrow.Author.Tests.{not-false}
 use Rattle.utf8.proofs.Ascii.{run_none, run_join, run_part}
 use Rattle.utf8.proofs.skip_blocks.Goals as goal
 
@@ -15,7 +14,7 @@ loop-i-preserved c =
     let a = c.args in
     let l = c.loop-i in
     run_join a.text.now a.at l.i (l.i + a.size) l.invariant
-    (run_part a.text.now l.i (l.i + a.size) (l.i + a.size - l.i) (omega arith) (omega arith) (c.is_ascii.ensures (not-false _ c.if-not-is_ascii.false)))
+    (run_part a.text.now l.i (l.i + a.size) (l.i + a.size - l.i) (omega arith) (omega arith) (c.is_ascii.ensures c.if-not-is_ascii.false))
 
 pub returns : goal.returns
 returns c = c.loop-i.invariant
