@@ -17,8 +17,8 @@ import sys
 
 NAME = r"[^\s(){}.;,@\"«»\[\]\\:]+"
 TOKEN = re.compile(r"\"(?:[^\"\\\n]|\\.)*\"|[^\s(){}.;,@\"«»\[\]\\]+")
-DECLARED = re.compile(rf"^\s*(?:(?:pub|abbrev|unfoldable|pattern|axiom) )*({NAME})(?: \{{[^}}]*\}})? :(?= )", re.M)
-CONSTRUCTORS = re.compile(rf"^  ({NAME}(?: {NAME})*) : ", re.M)
+DECLARED = re.compile(rf"^\s*(?:(?:pub|abbrev|unfoldable|pattern|axiom) )*({NAME})(?: \{{[^}}]*\}})? :(?=\s)", re.M)
+CONSTRUCTORS = re.compile(rf"^ +(?:pub )?({NAME}(?: {NAME})*) :(?=\s)", re.M)
 FIELD = re.compile(rf"(?:record \{{|[;{{]) ?({NAME}) [:=] ")
 BOUND = re.compile(rf"\blet ({NAME}) (?::|=)|λ ((?:{NAME} ?)+)\.|[({{]((?:{NAME} )+):")
 USE = re.compile(r"^\s*(?:pub |ghost )*use ([^{;\n]+)\.\{([^}]*)\}", re.M)

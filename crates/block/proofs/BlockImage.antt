@@ -136,12 +136,12 @@ after_body block rest =
 module _ (block : Block) (volume : List ℕ) (offset : ℕ) (rest : List ℕ) (fit : Fit (widths (kind_of block)) (fields block))
     (e : drop offset volume ≡ image block ++ rest) where
   -- where an image stands, so do its ID, its fixed fields and its variable parts
-  parts-stand :
+  parts_stand :
       (id_at volume offset ≡ id_of (kind_of block))
       × (fields_at (kind_of block) volume offset ≡ fields block)
       × (drop (offset + fixed_length (kind_of block)) volume ≡ body block ++ after_body block rest)
   unfolding image sealed le
-  parts-stand =
+  parts_stand =
       let kind : Kind = kind_of block in
       let fixed : List ℕ = laid (widths kind) (fields block) in
       let after : List ℕ = after_body block rest in
@@ -162,7 +162,7 @@ module _ (block : Block) (volume : List ℕ) (offset : ℕ) (rest : List ℕ) (f
   links_end_there b fill table same =
       let from : ℕ = offset + fixed_length (kind_of block) in
       let parts : part volume from (length (body block)) ≡ body block
-      = part_at volume (body block) (after_body block rest) from (length (body block)) parts-stand.2 refl in
+      = part_at volume (body block) (after_body block rest) from (length (body block)) parts_stand.2 refl in
       let bytes : Bytes (body block) = subst Bytes parts (bytes_part volume from (length (body block)) b) in
       filled_end table.links (subst (λ (other : Block). Bytes (body other)) same bytes) table.count (fill table same)
       (after_body block rest)
@@ -170,9 +170,9 @@ module _ (block : Block) (volume : List ℕ) (offset : ℕ) (rest : List ℕ) (f
   -- and the block that is shown there is the one whose image it is, also where it does not keep the rules
   pub image_shown : Bytes volume → LinksFill block → shown volume (block_at volume offset) ≡ block
   image_shown b fill =
-      let kind : kind_at volume offset ≡ kind_of block = ap kind_with parts-stand.0 ∙ (kind_known (kind_of block)).0 in
+      let kind : kind_at volume offset ≡ kind_of block = ap kind_with parts_stand.0 ∙ (kind_known (kind_of block)).0 in
       ap (λ (k : Kind). shown volume (block_of k volume offset)) kind
-      ∙ (shown_as block volume offset (after_body block rest) (links_end_there b fill) parts-stand.1 parts-stand.2).same
+      ∙ (shown_as block volume offset (after_body block rest) (links_end_there b fill) parts_stand.1 parts_stand.2).same
 
 -- a block is read at an offset
 pub record Reads (volume : List ℕ) (offset : ℕ) (block : Block) : Type 0 where
@@ -189,7 +189,7 @@ unfolding image
 block_complete block volume offset rest keeps e =
     let kind : Kind = kind_of block in
     let bytes : List ℕ = id_of kind ∷ laid (widths kind) (fields block) ++ body block in
-    let there = parts-stand block volume offset rest keeps.fit e in
+    let there = parts_stand block volume offset rest keeps.fit e in
     let p : Accepts volume offset block = accepts block volume offset (after_body block rest) keeps there.1 there.2 in
     let n : body_length kind volume offset ≡ length (body block) = p.as_shown.body-length in
     let i : length (image block) ≡ fixed_length kind + length (body block) + 4 = omega (arith, length-image block) in

@@ -72,7 +72,7 @@ appends_claim buffer mark sofar asked b sized start =
           λ rule.
           stands_accepted outcome.buffer outcome.mark (extended sofar c.blocks) t
           (none_due outcome.buffer outcome.mark (extended sofar c.blocks) t rule);
-      earlier-blocks =
+      earlier_blocks =
           λ at found e.
           rw bytes (still_read old (images c.blocks) at found (bytes_take mark.offset buffer b) (rw bytes at small) e);
     }
@@ -82,7 +82,7 @@ demand_3_holds =
     record {
       volumes = volume_claim;
       refused_volumes = refused_volumes;
-      lists-of-appends = appends_claim;
+      lists_of_appends = appends_claim;
       one_list_of_links = λ count bytes a b. links_unique a b;
       every_block_can_be_asked_for = rules_sized;
       every_header_can_be_asked_for = header_sized;

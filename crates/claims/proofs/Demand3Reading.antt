@@ -155,6 +155,6 @@ demand_3_reading_holds volume b small =
       one_reading = one_reading volume small;
       reader_gives_the_reading =
           λ reading. ((λ r. (_, reading_gives volume reading small r)), λ g. gives_reading volume reading g.0 b g.1);
-      check-answers-for-the-reading = check_answers volume;
-      check-counts-the-blocks = λ reading answer r e. check_counts volume reading answer small r e;
+      check_answers_for_the_reading = check_answers volume;
+      check_counts_the_blocks = λ reading answer r e. check_counts volume reading answer small r e;
     }

@@ -98,11 +98,11 @@ one state byte h =
 
 pub digests_hold : DigestClaim new feed_answer finish_answer whole_answer
 digests_hold = record {
-  whatever-the-cuts = whatever;
+  whatever_the_cuts = whatever;
   in_one_call = at_once;
-  one-after-the-other = both;
+  one_after_the_other = both;
   one_byte = one;
-  too-many-fed = not_fed;
+  too_many_fed = not_fed;
   too_many_finished = not_finished;
   too_many_at_once = not_at_once;
 }

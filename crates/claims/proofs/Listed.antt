@@ -35,8 +35,8 @@ use Rattle.listing.specs.Listing.{heading_line, end_line, refused_line, list_ans
 use Rattle.listing.specs.inner.Text.{listing_way, lines_from, after_heading, listing}
 use Rattle.listing.proofs.BlockLine.{block_has_its_line}
 use Rattle.claims.specs.Library.{ours}
-use Rattle.claims.specs.Demand3Reading.{Calls, ended, handed, ReaderGives, Stops, stopped, handed-before}
-use Rattle.claims.specs.Listed.{lines_of, IsListing, of-an-accepted-volume, of-a-refused-header, of-a-refused-block, of_a_longer_volume, Listed}
+use Rattle.claims.specs.Demand3Reading.{Calls, ended, handed, ReaderGives, Stops, stopped, handed_before}
+use Rattle.claims.specs.Listed.{lines_of, IsListing, of_an_accepted_volume, of_a_refused_header, of_a_refused_block, of_a_longer_volume, Listed}
 use Rattle.claims.proofs.Reader.{Told, told}
 use Rattle.claims.proofs.Demand3Reading.{first_given, demand_3_reading_holds}
 use Rattle.claims.proofs.Refused.{from_zero}
@@ -66,7 +66,7 @@ module _ (volume : List ℕ) (b : Bytes volume) where
       → lines_from volume mark ≡ lines_of mark.offset blocks ++ refused_line refusal.number at.offset
   unfolding on_read
   lines_of_stops {mark = mark} (stopped e) = walk_step volume (listing_way volume) mark e
-  lines_of_stops {mark = mark} (handed-before {found = found} {blocks = blocks} e numbered calls) =
+  lines_of_stops {mark = mark} (handed_before {found = found} {blocks = blocks} e numbered calls) =
       lines_go_on mark found blocks _ e (lines_of_stops calls)
 
 -- "end" is said at the volume's length
@@ -107,10 +107,10 @@ module _ (volume : List ℕ) (b : Bytes volume) (small : length volume ≤ 65536
   listed_after header e (verdict.Accepted accepted) same t =
       let reading = (demand_3_reading_holds volume b (omega arith)).accepted_iff_it_has_a_reading.0 (accepted, same) in
       let gives = ((demand_3_reading_holds volume b (omega arith)).reader_gives_the_reading reading.0).0 reading.1 in
-      subst (IsListing ours volume) (sym (text_of_accepted reading.0 _ gives.1)) (of-an-accepted-volume reading.0 small reading.1)
+      subst (IsListing ours volume) (sym (text_of_accepted reading.0 _ gives.1)) (of_an_accepted_volume reading.0 small reading.1)
   listed_after header e (verdict.Refused rejected) same (blocks, at, stops, _) =
       subst (IsListing ours volume) (sym (text_with header blocks _ e (lines_of_stops volume b stops)))
-      (of-a-refused-block header blocks at rejected.refusal small e (from_zero e stops))
+      (of_a_refused_block header blocks at rejected.refusal small e (from_zero e stops))
 
   listed_here : IsListing ours volume (listing volume)
   unfolding after_heading
@@ -118,7 +118,7 @@ module _ (volume : List ℕ) (b : Bytes volume) (small : length volume ≤ 65536
     where
       go : {answer : Verdict} → Checked volume answer → check_answer volume ≡ answer → IsListing ours volume (listing volume)
       go (refused_at_the_header {refusal = refusal} e) same =
-          subst (IsListing ours volume) (sym (text_after e)) (of-a-refused-header refusal small e)
+          subst (IsListing ours volume) (sym (text_after e)) (of_a_refused_header refusal small e)
       go (after_the_header {header = header} {answer = answer} e later) same = listed_after header e answer same (told later)
 
 module _ (volume : List ℕ) (b : Bytes volume) where
@@ -137,11 +137,11 @@ module _ (volume : List ℕ) (b : Bytes volume) where
 
   only_listing : (other : List ℕ) → IsListing ours volume other → other ≡ listing volume
   unfolding after_heading
-  only_listing other (of-an-accepted-volume reading small r) =
+  only_listing other (of_an_accepted_volume reading small r) =
       let gives = ((demand_3_reading_holds volume b (omega arith)).reader_gives_the_reading reading).0 r in
       sym (text_of_accepted volume b small reading _ gives.1)
-  only_listing other (of-a-refused-header refusal small e) = sym (text_after volume b small e)
-  only_listing other (of-a-refused-block header blocks at refusal small e stops) =
+  only_listing other (of_a_refused_header refusal small e) = sym (text_after volume b small e)
+  only_listing other (of_a_refused_block header blocks at refusal small e stops) =
       sym (text_with volume b small header blocks _ e (lines_of_stops volume b stops))
   only_listing other (of_a_longer_volume long) = sym (too_long long)
 

@@ -18,7 +18,7 @@ use Rattle.volume.specs.declared.ReadAnswer.TheVariants as read
 use Rattle.volume.specs.declared.Verdict.{Verdict}
 use Rattle.volume.proofs.Steps.{found_there, read_further}
 use Rattle.claims.specs.Library.{ours}
-use Rattle.claims.specs.Demand3Reading.{Calls, ended, handed, Stops, stopped, handed-before}
+use Rattle.claims.specs.Demand3Reading.{Calls, ended, handed, Stops, stopped, handed_before}
 use Rattle.claims.proofs.Alike.{still_read, read_in_beginning}
 
 -- the reader comes from one bookmark to another
@@ -36,7 +36,7 @@ calls_pass (handed e numbered calls) = let p = calls_pass calls in (past e p.0, 
 pub stops_pass : {volume : List ℕ} {number : ℕ} {mark at : Bookmark} {blocks : List Block} {refusal : Refusal}
     → Stops ours volume number mark blocks at refusal → Passes volume mark at × (read_answer volume at ≡ read.Refused refusal)
 stops_pass (stopped e) = (here, e)
-stops_pass (handed-before e numbered calls) = let p = stops_pass calls in (past e p.0, p.1)
+stops_pass (handed_before e numbered calls) = let p = stops_pass calls in (past e p.0, p.1)
 
 -- and the check with it
 pub checked_past : {volume : List ℕ} {sequence : ℕ} {mark at : Bookmark} {answer : Verdict} → Passes volume mark at

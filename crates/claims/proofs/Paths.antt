@@ -16,7 +16,7 @@ use lib.ListN.{length, get_or, get_elem?}
 use borrow.Author.Tests.{eqb-true, eq-eqb}
 use Rattle.format.specs.Blocks.{TableLink}
 use Rattle.folders.specs.Lines.{Line, places_from, held, each, entry_lines, tree_lines}
-use Rattle.claims.specs.Tree.{IsPath, to-a-link, further, Before, goes_on, lower, later, InOrder, line_of, IsListing, OneListing}
+use Rattle.claims.specs.Tree.{IsPath, to_a_link, further, Before, goes_on, lower, later, InOrder, line_of, IsListing, OneListing}
 use Rattle.claims.proofs.PathOrder.{among, all_of, same_lists}
 
 -- Paths that go through several links, one link after the other.
@@ -226,7 +226,7 @@ module _ (links : List TableLink) where
       let t = under_out (rests zero) (held parents folder) there in
       let h = holds folder t.first in
       let e : path ≡ t.place ∷ [] = t.same ∙ ap (λ r. t.place ∷ r) (Memᴰ.eq_of_singleton t.others) in
-      rw e (to-a-link h.there h.parent, omega arith)
+      rw e (to_a_link h.there h.parent, omega arith)
   is_path (suc left) folder {path} there =
       let t = under_out (rests (suc left)) (held parents folder) there in
       let h = holds folder t.first in
@@ -234,20 +234,20 @@ module _ (links : List TableLink) where
       ⊎_elim
       (λ e.
       let s : path ≡ t.place ∷ [] = t.same ∙ ap (λ r. t.place ∷ r) e in
-      rw s (to-a-link h.there h.parent, omega arith))
+      rw s (to_a_link h.there h.parent, omega arith))
       (λ m.
       let on = is_path left (get_or children t.place 0) m in
       rw t.same (further h.there h.parent (rw child at on.0), omega (arith, on.1)))
       (Memᴰ.cases_cons t.others)
 
   some_link : {folder : ℕ} {path : List ℕ} → IsPath links folder path → 0 < length path
-  some_link (to-a-link e p) = omega arith
+  some_link (to_a_link e p) = omega arith
   some_link (further e p on) = omega arith
 
   gathered : (left : ℕ) {folder : ℕ} {path : List ℕ} → IsPath links folder path → length path ≤ suc left
       → StandsIn path (paths_from left folder)
   unfolding rests
-  gathered left {folder} (to-a-link {place = place} e p) short =
+  gathered left {folder} (to_a_link {place = place} e p) short =
       under_in (rests left) (held parents folder) (held_there folder e p) (ends_here left place)
   gathered zero (further e p on) short = absurd (omega (arith, some_link on))
   gathered (suc left) {folder} (further {place = place} {link = link} {path = path} e p on) short =

@@ -23,7 +23,7 @@ use Rattle.volume.specs.declared.Verdict.TheVariants as verdict
 use Rattle.volume.proofs.Steps.{read_counts}
 use Rattle.volume.proofs.OneCall.{after, HandedOut, read_sound, Hands, read_complete, AtEnd, end_sound, end_complete}
 use Rattle.claims.specs.Library.{ours}
-use Rattle.claims.specs.Demand3Reading.{Calls, ended, handed, Stops, stopped, handed-before}
+use Rattle.claims.specs.Demand3Reading.{Calls, ended, handed, Stops, stopped, handed_before}
 use Rattle.claims.proofs.Walk.{Runs, after_all}
 
 -- what the calls tell of the blocks
@@ -78,13 +78,13 @@ pub check_stops : {volume : List ℕ} {number : ℕ} {mark at : Bookmark} {block
     → Stops ours volume number mark blocks at refusal
     → CheckedFrom volume sequence mark (verdict.Refused (record { refusal = refusal; offset = at.offset; blocks = at.number }))
 check_stops sequence (stopped e) = refused_at_a_block e
-check_stops sequence (handed-before e numbered calls) = after_a_block e (check_stops sequence calls)
+check_stops sequence (handed_before e numbered calls) = after_a_block e (check_stops sequence calls)
 
 -- and the bookmark at which it does has counted the blocks before
 pub stops_count : {volume : List ℕ} {number : ℕ} {mark at : Bookmark} {blocks : List Block} {refusal : Refusal}
     → Stops ours volume number mark blocks at refusal → at.number ≡ mark.number + length blocks
 stops_count (stopped e) = omega arith
-stops_count {volume} {mark = mark} (handed-before {found = found} e numbered calls) =
+stops_count {volume} {mark = mark} (handed_before {found = found} e numbered calls) =
     omega (arith, stops_count calls, (read_counts volume mark found e).1)
 
 -- what a verdict tells of the reader from a bookmark on: it comes to "end" at the end bookmark, or it is refused, where and after how
@@ -106,7 +106,7 @@ one_more volume mark found e (verdict.Refused answer) (blocks, at, calls, same) 
     let counts = read_counts volume mark found e in (
       shown volume found.block ∷ blocks,
       at,
-      handed-before e counts.0 (subst (λ (n : ℕ). Stops ours volume n found.next blocks at answer.refusal) counts.1 calls),
+      handed_before e counts.0 (subst (λ (n : ℕ). Stops ours volume n found.next blocks at answer.refusal) counts.1 calls),
       same,
     )
 

@@ -16,7 +16,7 @@ use Rattle.volume.specs.declared.Verdict.{Verdict}
 use Rattle.volume.specs.declared.Verdict.TheVariants as verdict
 use Rattle.volume.proofs.Checked.{checked, checked_exactly}
 use Rattle.claims.specs.Library.{ours}
-use Rattle.claims.specs.Demand3Reading.{Stops, RefusedAt, at-the-header, at-a-block, RefusedVolumes}
+use Rattle.claims.specs.Demand3Reading.{Stops, RefusedAt, at_the_header, at_a_block, RefusedVolumes}
 use Rattle.claims.proofs.Reader.{check_stops, stops_count, Told, told}
 use Rattle.claims.proofs.Demand3Reading.{first_given}
 
@@ -32,8 +32,8 @@ from_zero {volume} {header} {blocks} {at} {refusal} e stops =
     subst (λ (number : ℕ). Stops ours volume number header.next blocks at refusal) (first_number volume header e) stops
 
 refused_as_the_reader : {volume : List ℕ} {rejected : Rejected} → RefusedAt ours volume rejected → Checked volume (verdict.Refused rejected)
-refused_as_the_reader (at-the-header e) = refused_at_the_header e
-refused_as_the_reader {volume} (at-a-block {header = header} {blocks = blocks} {at = at} {refusal = refusal} e stops) =
+refused_as_the_reader (at_the_header e) = refused_at_the_header e
+refused_as_the_reader {volume} (at_a_block {header = header} {blocks = blocks} {at = at} {refusal = refusal} e stops) =
     subst (λ (n : ℕ). Checked volume (verdict.Refused (record { refusal = refusal; offset = at.offset; blocks = n })))
     (omega (arith, stops_count stops, first_number volume header e)) (after_the_header e (check_stops header.sequence stops))
 
@@ -41,11 +41,11 @@ refused_there : {volume : List ℕ} {answer : Verdict} (rejected : Rejected) →
     → RefusedAt ours volume rejected
 refused_there {volume} rejected (refused_at_the_header {refusal = refusal} e) same =
     let r : record { refusal = refusal; offset = 0; blocks = 0 } ≡ rejected = cc in
-    subst (RefusedAt ours volume) r (at-the-header e)
+    subst (RefusedAt ours volume) r (at_the_header e)
 refused_there {volume} rejected (after_the_header {header = header} e later) same =
     let t : Told volume header.next (verdict.Refused rejected) = subst (Told volume header.next) same (told later) in
     let count : length t.0 ≡ t.1.number = omega (arith, stops_count t.2, first_number volume header e) in
-    subst (RefusedAt ours volume) (sym t.3) (rw (← count) (at-a-block e (from_zero e t.2)))
+    subst (RefusedAt ours volume) (sym t.3) (rw (← count) (at_a_block e (from_zero e t.2)))
 
 pub refused_volumes : RefusedVolumes ours
 refused_volumes volume rejected =

@@ -24,7 +24,7 @@ use Rattle.repair.specs.Repairing.{in_table, is_torn, repaired, repair_answer}
 use Rattle.repair.specs.declared.RepairAnswer.{RepairAnswer}
 use Rattle.repair.specs.declared.RepairAnswer.TheVariants as repair
 use Rattle.claims.specs.Library.{ours}
-use Rattle.claims.specs.Demand3Reading.{RefusedAt, at-the-header, at-a-block}
+use Rattle.claims.specs.Demand3Reading.{RefusedAt, at_the_header, at_a_block}
 use Rattle.claims.specs.Torn.{TornAppend, CutInBlock, LongestAccepted, Repairs, whole, cut, refused, RepairClaim}
 use Rattle.claims.proofs.Refused.{refused_volumes}
 use Rattle.claims.proofs.Passing.{Passes, here, past, stops_pass, passes_further, passes_due}
@@ -61,9 +61,9 @@ header_not_torn sequence number = and-false (eqb number 2)
 
 torn_is_cut : (volume : List ℕ) (rejected : Rejected) → Bytes volume → RefusedAt ours volume rejected → TestedTorn volume rejected ≡ true
     → CutInBlock ours volume × LongestAccepted ours volume rejected.offset
-torn_is_cut volume rejected b (at-the-header {refusal = refusal} e) t =
+torn_is_cut volume rejected b (at_the_header {refusal = refusal} e) t =
     absurd (false≢true (sym (header_not_torn (sequence_of volume) refusal.number) ∙ t))
-torn_is_cut volume rejected b (at-a-block {header = header} {blocks = blocks} {at = at} {refusal = refusal} e stops) t =
+torn_is_cut volume rejected b (at_a_block {header = header} {blocks = blocks} {at = at} {refusal = refusal} e stops) t =
     let p = stops_pass stops in
     let tests = (and-eq-true_iff (eqb refusal.number 2) (not at.due)).0 (sym (torn_there volume header at refusal.number e p.0) ∙ t) in
     let no_table : at.due ≡ false = not-true _ tests.1 in (
@@ -95,7 +95,7 @@ cut_is_torn volume b c =
     let tests : (eqb c.refusal.number 2 && not at.due) ≡ true = rw (eq-eqb _ 2 c.ends_early, c.no_table) in
     record {
       rejected = rejected;
-      refusal = (refused_volumes volume rejected).1 (at-a-block c.sound_header c.stops);
+      refusal = (refused_volumes volume rejected).1 (at_a_block c.sound_header c.stops);
       torn = torn_there volume c.header at c.refusal.number c.sound_header p.0 ∙ tests;
       longest = longest_there volume b c.header c.sound_header at p.0 p.1 c.no_table;
     }

@@ -17,7 +17,7 @@ use Rattle.volume.specs.declared.Accepted.{Accepted}
 use Rattle.volume.proofs.HeaderImage.{length-header, HeaderStands, header_sound}
 use Rattle.claims.specs.Library.{ours}
 use Rattle.claims.specs.Demand3Reading.{ReaderGives}
-use Rattle.claims.specs.Demand3.{Start, from-volume, from-header}
+use Rattle.claims.specs.Demand3.{Start, from_volume, from_header}
 use Rattle.claims.proofs.Appending.{Written, written_header}
 use Rattle.claims.proofs.Walk.{after_all}
 use Rattle.claims.proofs.Demand3Reading.{given, gives_reading, reading_gives, check_answers}
@@ -73,14 +73,14 @@ one_end volume reading a b p q =
     ap (λ (answer : Accepted). answer.end) same
 
 pub start_stands : (buffer : List ℕ) (mark : Bookmark) (sofar : Reading) → Bytes buffer → Start ours buffer mark sofar → Sofar buffer mark sofar
-start_stands buffer mark sofar b (from-volume volume spare reading e a g) =
+start_stands buffer mark sofar b (from_volume volume spare reading e a g) =
     let v : Bytes volume = subst Bytes (take_at volume spare (length volume) refl) (bytes_take (length volume) (volume ++ spare) (rw e b)) in
     let r : ReadingOf volume reading = gives_reading volume reading mark v g in
     let h : HeaderStands volume = header_sound volume v (given volume reading mark g).no_fault in
     let end : after_all (start_of reading) reading.blocks ≡ mark
     = one_end volume reading _ mark (reading_gives volume reading h.small r) g in
     rw (← e, ← end) (volume_stands volume spare reading h.small r)
-start_stands buffer mark sofar b (from-header before header s answer e) =
+start_stands buffer mark sofar b (from_header before header s answer e) =
     let w : Written before header = written_header before header mark s answer in
     let first : first_mark header.sequence ≡ mark = let p = w.answer in cc in
     rw (← e, w.holds, ← first) (header_stands before header w.rules w.room)

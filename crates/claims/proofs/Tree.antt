@@ -29,7 +29,7 @@ use Rattle.tree.specs.declared.TreeAnswer.{TreeAnswer}
 use Rattle.tree.specs.declared.TreeAnswer.TheVariants as tree
 use Rattle.tree.proofs.Answers.{never_ends, table_id, fault_is, Gives, line_refused, lines_given, not_read_gives}
 use Rattle.claims.specs.Library.{ours}
-use Rattle.claims.specs.Tree.{line_of, IsListing, TableListing, Lists, not-read, listed, too-deep, no_room, TreeClaim}
+use Rattle.claims.specs.Tree.{line_of, IsListing, TableListing, Lists, not_read, listed, too_deep, no_room, TreeClaim}
 use Rattle.claims.proofs.PathOrder.{all_of}
 use Rattle.claims.proofs.Paths.{listing_from, listing_lines, is_listing, same_listings}
 use Rattle.claims.proofs.FirstLine.{fault_from, Finds, none_refused, deep, full, found, from_first, all_given, deep_decides, room_decides}
@@ -103,9 +103,9 @@ module _ (volume : List ℕ) (mark : Bookmark) where
 
       -- What is to be answered is answered.
       answered : {answer : TreeAnswer} {after : List ℕ} → Lists ours volume mark root out answer after → Gives volume mark root out answer after
-      answered (not-read e) = not_read_gives volume mark root out e
+      answered (not_read e) = not_read_gives volume mark root out e
       answered (listed {paths = paths} l first) = listed_gives (sound l) (all_given (length out) paths first)
-      answered (too-deep {paths = paths} before l first e d) =
+      answered (too_deep {paths = paths} before l first e d) =
           refused_gives (sound l) 24 (deep_decides (length out) before paths first e d) (λ z. omega arith) (λ z. omega arith)
       answered (no_room {paths = paths} before l first e d r) =
           refused_gives (sound l) 17 (room_decides (length out) before paths first e d r) (λ z. omega arith) (λ z. omega arith)
@@ -116,7 +116,7 @@ module _ (volume : List ℕ) (mark : Bookmark) where
 
       by_lines : {paths : List (List ℕ)} → TableListing ours volume mark root paths → {fault : ℕ} → Finds (length out) 0 paths fault → Some
       by_lines {paths} l (none_refused first) = (_, _, listed l (from_first (length out) (length paths) paths first))
-      by_lines {paths} l (deep before first e d) = (_, _, too-deep before l (from_first (length out) before paths first) e d)
+      by_lines {paths} l (deep before first e d) = (_, _, too_deep before l (from_first (length out) before paths first) e d)
       by_lines {paths} l (full before first e d r) =
           (_, _, no_room before l (from_first (length out) before paths first) e d (rw (zero-add before) at r))
 
@@ -139,7 +139,7 @@ module _ (volume : List ℕ) (mark : Bookmark) where
                 is_listing = listing;
               })
               (found (length out) 0 paths (all_of (λ path. length path ≤ 33) paths (λ path there. ((listing.exactly path).0 there).1)))
-          go (refuses p f) e = (_, _, not-read e)
+          go (refuses p f) e = (_, _, not_read e)
 
 pub tree_holds : TreeClaim ours tree_answer tree_room
 tree_holds volume mark root out b answer after =

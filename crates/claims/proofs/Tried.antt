@@ -24,7 +24,7 @@ use Rattle.volume.proofs.HeaderImage.{length-header}
 use Rattle.volume.proofs.OneCall.{after}
 use Rattle.claims.specs.Library.{Library, ours}
 use Rattle.claims.specs.Demand3Reading.{ReaderGives}
-use Rattle.claims.specs.Demand3.{VolumeClaim, Start, from-volume, Demand3}
+use Rattle.claims.specs.Demand3.{VolumeClaim, Start, from_volume, Demand3}
 use Rattle.claims.specs.Samples.{first}
 use Rattle.claims.proofs.Appending.{admitted_appended}
 use Rattle.claims.proofs.Bytes.{all_small, small_bytes, zeros_bytes, volume_bytes}
@@ -216,9 +216,9 @@ started library claim same =
     let gives = (claims.reader_gives_the_reading bare).0 (whole bare bare_keeps) in
     let small : length (volume_of bare) ≤ 16777216 = omega (arith, bare_long) in
     let right = check_answers (volume_of bare) bare (first_mark 0) (reading_gives (volume_of bare) bare small (whole bare bare_keeps)) in
-    let told = claims.check-answers-for-the-reading bare gives.0 gives.1 in
+    let told = claims.check_answers_for_the_reading bare gives.0 gives.1 in
     let end : first_mark 0 ≡ gives.0 = ap end_of (sym right ∙ sym same ∙ told) in
-    from-volume (volume_of bare) spare bare refl (claims.accepted_iff_it_has_a_reading.1 (bare, whole bare bare_keeps))
+    from_volume (volume_of bare) spare bare refl (claims.accepted_iff_it_has_a_reading.1 (bare, whole bare bare_keeps))
     (subst (ReaderGives library (volume_of bare) bare) (sym end) gives.1)
   where
     end_of : Verdict → Bookmark

@@ -32,8 +32,8 @@ differ e =
 pub feeds_nothing_lem : DigestClaim new feeds_nothing finish_answer whole_answer → ⊥
 unfolding end_to_end
 feeds_nothing_lem claim =
-    let none = claim.whatever-the-cuts [] (omega arith) in
-    let some = claim.whatever-the-cuts (ascii "abc" ∷ []) (omega arith) in
+    let none = claim.whatever_the_cuts [] (omega arith) in
+    let some = claim.whatever_the_cuts (ascii "abc" ∷ []) (omega arith) in
     let both : ◌≡◌ {A = Finished} (record { refusal = 0; digest = sha256 [] }) (record { refusal = 0; digest = sha256 (ascii "abc") })
     = sym none.2 ∙ ap finish_answer (stays none.1 ∙ sym (stays some.1)) ∙ some.2 in
     differ (ap (λ (f : Finished). f.digest) both)

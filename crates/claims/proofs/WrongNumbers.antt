@@ -70,7 +70,7 @@ one_accepted (accepted permits none_left) = refl
 pub counts_no_append_lem : Demand3 counts_no_append → ⊥
 unfolding appends
 counts_no_append_lem claim =
-    let list = claim.lists-of-appends roomy (first_mark 0) bare (bare_data 1 ∷ []) roomy_bytes
+    let list = claim.lists_of_appends roomy (first_mark 0) bare (bare_data 1 ∷ []) roomy_bytes
     (rules_sized (bare_data 1) (data_rules 1 (omega arith)), tt) (started counts_no_append claim refl) in
     let there = data_appended roomy 80 0 1 (omega arith) (omega arith) (omega (arith, roomy_long)) (omega arith) (omega arith) in
     let one = one_accepted (rw there.0 at list.each_accepted_exactly_if_allowed) in

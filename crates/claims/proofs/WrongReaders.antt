@@ -27,8 +27,8 @@ use Rattle.volume.specs.declared.Rejected.{Rejected}
 use Rattle.volume.specs.declared.Verdict.{Verdict}
 use Rattle.volume.specs.declared.Verdict.TheVariants as verdict
 use Rattle.claims.specs.Library.{ours}
-use Rattle.claims.specs.Demand3Reading.{Calls, ended, handed, RefusedAt, at-the-header, at-a-block}
-use Rattle.claims.specs.Demand3.{accepted, Demand3}
+use Rattle.claims.specs.Demand3Reading.{Calls, ended, handed, RefusedAt, at_the_header, at_a_block}
+use Rattle.claims.specs.Demand3.{Demand3}
 use Rattle.claims.specs.Wrong.{refuses_all, invents_blocks, seven_of, repeats_first, first_block, invents_blocks_before_faults, seven_before, hands_out_no_links, empty_part, without_length}
 use Rattle.claims.proofs.Demand3.{demand_3_holds}
 use Rattle.claims.proofs.Tried.{bare, bare_keeps, of_reading, whole, of_bare, two_given, tabled, tabled_header, link_bytes, tabled_keeps, tabled_small}
@@ -45,9 +45,9 @@ refuses_all_lem claim =
 pub invents_blocks_lem : Demand3 invents_blocks → ⊥
 invents_blocks_lem claim =
     let gives = ((of_bare ours demand_3_holds).reading.reader_gives_the_reading bare).0 (whole bare bare_keeps) in
-    let right = (of_bare ours demand_3_holds).reading.check-answers-for-the-reading bare gives.0 gives.1 in
+    let right = (of_bare ours demand_3_holds).reading.check_answers_for_the_reading bare gives.0 gives.1 in
     let bent = ((of_bare invents_blocks claim).reading.reader_gives_the_reading bare).0 (whole bare bare_keeps) in
-    let wrong = (of_bare invents_blocks claim).reading.check-answers-for-the-reading bare bent.0 bent.1 in
+    let wrong = (of_bare invents_blocks claim).reading.check_answers_for_the_reading bare bent.0 bent.1 in
     let both = sym (ap seven_of right) ∙ wrong in
     let e : 7 ≡ bent.0.number = ap blocks both in
     omega (arith, bent.1.counted)
@@ -62,8 +62,8 @@ unfolding header_answer header_fault first_fault
 no_header = refl
 
 not_seven : (rejected : Rejected) → RefusedAt invents_blocks_before_faults [] rejected → rejected.blocks ≡ 7 → ⊥
-not_seven rejected (at-the-header e) seven = omega arith
-not_seven rejected (at-a-block e stops) seven =
+not_seven rejected (at_the_header e) seven = omega arith
+not_seven rejected (at_a_block e stops) seven =
     let f = no_header in
     let z : ◌≡◌ {A = ℕ} 0 1 = cc in
     omega arith
@@ -71,7 +71,7 @@ not_seven rejected (at-a-block e stops) seven =
 pub invents_blocks_before_faults_lem : Demand3 invents_blocks_before_faults → ⊥
 invents_blocks_before_faults_lem claim =
     let right : ours.check [] ≡ verdict.Refused (record { refusal = refusal_of 2; offset = 0; blocks = 0 })
-    = (demand_3_holds.refused_volumes [] _).1 (at-the-header no_header) in
+    = (demand_3_holds.refused_volumes [] _).1 (at_the_header no_header) in
     not_seven _ ((claim.refused_volumes [] _).0 (ap seven_before right)) refl
 
 -- Of two data blocks with two times, a reader that gives the first again gives one time twice.

@@ -1,6 +1,6 @@
 -- Wrong repairs answer for small volumes what the claim does not allow: for a torn append another length than before it, for a damaged
 -- block and for a missing table a length at all. Assumes nothing.
-use Prim.Native.Nat.{ℕ, ◌+◌, ◌≤◌}
+use Prim.Native.Nat.{ℕ, ◌≤◌}
 use mathlib.Core.Path.{◌≡◌, refl, sym, ap}
 use mathlib.Core.Bool.{false}
 use mathlib.Core.List.{List, [], ◌∷◌, ◌++◌, append-nil}
@@ -36,7 +36,7 @@ use Rattle.repair.specs.declared.RepairAnswer.{RepairAnswer}
 use Rattle.repair.specs.declared.RepairAnswer.TheVariants as repair
 use Rattle.claims.specs.Library.{ours}
 use Rattle.claims.specs.Samples.{first}
-use Rattle.claims.specs.Demand3Reading.{Calls, ended, handed, at-a-block}
+use Rattle.claims.specs.Demand3Reading.{Calls, ended, handed, at_a_block}
 use Rattle.claims.specs.Torn.{TornAppend, TornClaim, Repairs, RepairClaim}
 use Rattle.claims.specs.Torn as Torn
 use Rattle.claims.specs.WrongCalls.{leaves_all, leaves_header, drops_damaged, drops_table}
@@ -215,7 +215,7 @@ not_five : {bytes : List ℕ} {answer : RepairAnswer} (n offset blocks : ℕ) �
 not_five n offset blocks (Torn.whole a) e five = let yes = a.1 in let z : ◌≡◌ {A = ℕ} 0 1 = cc in omega arith
 not_five {bytes} n offset blocks (Torn.cut c l) e five =
     let other : Rejected = record { refusal = c.refusal; offset = c.at.offset; blocks = length c.blocks } in
-    let two : check_answer bytes ≡ verdict.Refused other = (refused_volumes bytes other).1 (at-a-block c.sound_header c.stops) in
+    let two : check_answer bytes ≡ verdict.Refused other = (refused_volumes bytes other).1 (at_a_block c.sound_header c.stops) in
     let same : other ≡ record { refusal = refusal_of 5; offset = offset; blocks = blocks } = cc (two, five) in
     omega (arith, c.ends_early, ap (λ (r : Rejected). r.refusal.number) same)
 not_five n offset blocks (Torn.refused f not-cut) e five = let z : ◌≡◌ {A = ℕ} 0 1 = cc in omega arith

@@ -71,7 +71,7 @@ not_both (accepted first (accepted second none_left)) = let lower = second.keeps
 pub accepts_lower_time_lem : Demand3 accepts_lower_time → ⊥
 unfolding appends
 accepts_lower_time_lem claim =
-    let list = claim.lists-of-appends roomy (first_mark 0) bare (bare_data 2 ∷ bare_data 1 ∷ []) roomy_bytes
+    let list = claim.lists_of_appends roomy (first_mark 0) bare (bare_data 2 ∷ bare_data 1 ∷ []) roomy_bytes
     (rules_sized (bare_data 2) (data_rules 2 (omega arith)), (rules_sized (bare_data 1) (data_rules 1 (omega arith)), tt))
     (started accepts_lower_time claim refl) in
     let first = data_appended roomy 80 0 2 (omega arith) (omega arith) (omega (arith, roomy_long)) (omega arith) (omega arith) in

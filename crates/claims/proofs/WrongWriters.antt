@@ -33,7 +33,7 @@ none_due (refused forbids none_left) = tt
 pub always_due_lem : Demand3 always_due → ⊥
 unfolding appends
 always_due_lem claim =
-    let list = claim.lists-of-appends roomy (first_mark 0) bare (bare_data 1 ∷ []) roomy_bytes
+    let list = claim.lists_of_appends roomy (first_mark 0) bare (bare_data 1 ∷ []) roomy_bytes
     (rules_sized (bare_data 1) (data_rules 1 (omega arith)), tt) (started always_due claim refl) in
     let there = data_appended roomy 80 0 1 (omega arith) (omega arith) (omega (arith, roomy_long)) (omega arith) (omega arith) in
     let says = rw there.0 at (list.due_says.1 (none_due list.each_accepted_exactly_if_allowed)) in

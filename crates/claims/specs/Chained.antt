@@ -8,7 +8,6 @@ use Rattle.fips180.specs.Hash.{sha256}
 use Rattle.format.specs.Readings.{Reading, ReadingOf}
 use Rattle.volume.specs.declared.Verdict.TheVariants as Verdict
 use Rattle.chain.specs.declared.Pairing.{Pairing}
-use Rattle.chain.specs.declared.Pairing.TheVariants as Pairing
 use Rattle.claims.specs.Library.{Library}
 use Rattle.claims.specs.Demand3Reading.{IsAccepted}
 

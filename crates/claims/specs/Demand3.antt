@@ -114,13 +114,13 @@ module _ (library : Library) where
   -- Where appending starts, with the header and blocks that stand there. Either the buffer begins with an accepted volume and the
   -- bookmark is its end bookmark, or the header writer has returned the bookmark and left the buffer.
   pub data Start (buffer : List ℕ) (mark : Bookmark) : Reading → Type 0 where
-    from-volume :
+    from_volume :
         (volume spare : List ℕ) (reading : Reading)
         → volume ++ spare ≡ buffer
         → IsAccepted library volume
         → ReaderGives library volume reading mark
         → Start buffer mark reading
-    from-header :
+    from_header :
         (before : List ℕ) (header : Header)
         → SizedHeader header
         → library.write_header (length before) header ≡ Next mark
@@ -156,7 +156,7 @@ module _ (library : Library) where
     -- unless one is, this is a volume that ends at the last bookmark
     pub accepted_volume : NoTableDue (extended sofar blocks) → AcceptedVolume (written outcome) (extended sofar blocks) outcome.mark
     -- what could be read before is still read
-    pub earlier-blocks :
+    pub earlier_blocks :
         (at : Bookmark) (found : Found)
         → library.read (take mark.offset buffer) at ≡ ReadAnswer.Found found
         → StillRead (take mark.offset buffer) (written outcome) at found
@@ -167,7 +167,7 @@ module _ (library : Library) where
   pub record Demand3 : Type 0 where
     pub volumes : (volume : List ℕ) → Bytes volume → length volume ≤ 16777216 → VolumeClaim volume
     pub refused_volumes : RefusedVolumes library
-    pub lists-of-appends :
+    pub lists_of_appends :
         (buffer : List ℕ) (mark : Bookmark) (sofar : Reading) (asked : List Block)
         → Bytes buffer
         → All Sized asked

@@ -48,7 +48,7 @@ module _ (library : Library) where
         {number : ℕ} {mark : Bookmark} {refusal : Refusal}
         → library.read volume mark ≡ ReadAnswer.Refused refusal
         → Stops volume number mark [] mark refusal
-    handed-before :
+    handed_before :
         {number : ℕ} {mark at : Bookmark} {found : Found} {blocks : List Block} {refusal : Refusal}
         → library.read volume mark ≡ ReadAnswer.Found found
         → found.number ≡ number
@@ -68,12 +68,12 @@ module _ (library : Library) where
     -- the reader gives the reading, block by block, and nothing that is not the reading
     pub reader_gives_the_reading : (reading : Reading) → ReadingOf volume reading ↔ ((end : Bookmark) × ReaderGives volume reading end)
     -- the check answers with the reading's sequence number and the end bookmark
-    pub check-answers-for-the-reading :
+    pub check_answers_for_the_reading :
         (reading : Reading) (end : Bookmark)
         → ReaderGives volume reading end
         → library.check volume ≡ Verdict.Accepted (record { sequence = reading.header.sequence; end = end })
     -- and the number of blocks that it gives, the end bookmark's, is that of the reading
-    pub check-counts-the-blocks :
+    pub check_counts_the_blocks :
         (reading : Reading) (answer : Accepted)
         → ReadingOf volume reading
         → library.check volume ≡ Verdict.Accepted answer
@@ -81,11 +81,11 @@ module _ (library : Library) where
 
   -- Where the reader is refused, and after which blocks: at the header, which begins at 0, or at a block.
   pub data RefusedAt (volume : List ℕ) : Rejected → Type 0 where
-    at-the-header :
+    at_the_header :
         {refusal : Refusal}
         → library.read_header volume ≡ HeaderAnswer.Refused refusal
         → RefusedAt volume (record { refusal = refusal; offset = 0; blocks = 0 })
-    at-a-block :
+    at_a_block :
         {header : HeaderRead} {blocks : List Block} {at : Bookmark} {refusal : Refusal}
         → library.read_header volume ≡ HeaderAnswer.Accepted header
         → Stops volume 0 header.next blocks at refusal

@@ -23,13 +23,13 @@ module _ (start : Digest) (feed : Digest → List ℕ → Fed) (finish : Digest 
 
   pub record DigestClaim : Type 0 where
     -- however bytes are cut into parts, the digest of the parts is that of the whole
-    pub whatever-the-cuts :
+    pub whatever_the_cuts :
         (parts : List (List ℕ)) → length (end_to_end parts) ≤ 16777216
         → (last : Digest) × AllFed start parts last × (finish last ≡ record { refusal = 0; digest = sha256 (end_to_end parts) })
     -- and so it is in one call
     pub in_one_call : (bytes : List ℕ) → length bytes ≤ 16777216 → whole bytes ≡ record { refusal = 0; digest = sha256 bytes }
     -- from any state, also one that was made up, feeding a part and then another is feeding both at once
-    pub one-after-the-other :
+    pub one_after_the_other :
         (state : Digest) (first second : List ℕ) → state.fed + length (first ++ second) ≤ 16777216
         → feed (feed state first).state second ≡ feed state (first ++ second)
     -- a byte is held in the first place that is not in use, the other held bytes keep their values, and one more is counted
@@ -38,7 +38,7 @@ module _ (start : Digest) (feed : Digest → List ℕ → Fed) (finish : Digest 
         → ((feed state (byte ∷ [])).state.held ≡ set state.held (state.fed % 64) byte)
         × ((feed state (byte ∷ [])).state.fed ≡ state.fed + 1)
     -- more than a volume may have is refused with 1, and the state is as it was, also where nothing more is fed
-    pub too-many-fed :
+    pub too_many_fed :
         (state : Digest) (part : List ℕ) → 16777216 < state.fed + length part → feed state part ≡ record { refusal = 1; state = state }
     pub too_many_finished : (state : Digest) → 16777216 < state.fed → finish state ≡ record { refusal = 1; digest = replicate 32 0 }
     pub too_many_at_once : (bytes : List ℕ) → 16777216 < length bytes → whole bytes ≡ record { refusal = 1; digest = replicate 32 0 }

@@ -26,19 +26,19 @@ module _ (library : Library) where
   -- The text of a volume's listing. The heading always stands first.
   pub data IsListing (volume : List ℕ) : (text : List ℕ) → Type 0 where
     -- a line for each block of the reading, in order; then where the volume ends, and how many blocks the reading has
-    of-an-accepted-volume :
+    of_an_accepted_volume :
         (reading : Reading)
         → length volume ≤ 65536
         → ReadingOf volume reading
         → IsListing volume (heading_line ++ (lines_of 80 reading.blocks ++ end_line (length volume) (length reading.blocks)))
     -- the header's refusal, at 0
-    of-a-refused-header :
+    of_a_refused_header :
         (refusal : Refusal)
         → length volume ≤ 65536
         → library.read_header volume ≡ HeaderAnswer.Refused refusal
         → IsListing volume (heading_line ++ refused_line refusal.number 0)
     -- a line for each block that the reader hands out before it is refused; then the refusal, and where it is
-    of-a-refused-block :
+    of_a_refused_block :
         (header : HeaderRead) (blocks : List Block) (at : Bookmark) (refusal : Refusal)
         → length volume ≤ 65536
         → library.read_header volume ≡ HeaderAnswer.Accepted header

@@ -16,7 +16,6 @@ use Rattle.volume.specs.declared.HeaderAnswer.TheVariants as HeaderAnswer
 use Rattle.volume.specs.declared.Verdict.TheVariants as Verdict
 use Rattle.volume.specs.declared.WriteAnswer.TheVariants.{Next}
 use Rattle.repair.specs.declared.RepairAnswer.{RepairAnswer}
-use Rattle.repair.specs.declared.RepairAnswer.TheVariants as RepairAnswer
 use Rattle.claims.specs.Library.{Library}
 use Rattle.claims.specs.Demand3Reading.{ReaderGives, Stops, IsAccepted}
 

@@ -20,13 +20,12 @@ use Rattle.volume.specs.declared.ReadAnswer.TheVariants as ReadAnswer
 use Rattle.folders.specs.Lines.{Line, line_numbers}
 use Rattle.tree.specs.Listing.{table_due}
 use Rattle.tree.specs.declared.TreeAnswer.{TreeAnswer}
-use Rattle.tree.specs.declared.TreeAnswer.TheVariants as TreeAnswer
 use Rattle.claims.specs.Library.{Library}
 
 -- A path down from a folder, by the places of its links among the table's links: the folder is the parent of the first link, and the
 -- child of each link is the parent of the next.
 pub data IsPath (links : List TableLink) : (folder : ℕ) (path : List ℕ) → Type 0 where
-  to-a-link :
+  to_a_link :
       {folder place : ℕ} {link : TableLink}
       → get_elem? links place ≡ some link
       → link.parent ≡ folder
@@ -90,7 +89,7 @@ module _ (library : Library) where
   -- What is to be answered where a list is lent, and what the list then holds.
   pub data Lists (volume : List ℕ) (mark : Bookmark) (root : ℕ) (out : List ℕ) : TreeAnswer → (after : List ℕ) → Type 0 where
     -- the refusals of reading the table come first
-    not-read :
+    not_read :
         {refusal : Refusal}
         → library.read volume (table_due mark) ≡ ReadAnswer.Refused refusal
         → Lists volume mark root out (TreeAnswer.Refused refusal) out
@@ -101,7 +100,7 @@ module _ (library : Library) where
         → FirstCanBeGiven (length out) (length paths) paths
         → Lists volume mark root out (TreeAnswer.Lines (length paths)) (put out 0 (line_numbers (map line_of paths)))
     -- the first line that can't be given decides: 24 for its depth,
-    too-deep :
+    too_deep :
         {paths : List (List ℕ)} (before : ℕ) {path : List ℕ}
         → TableListing volume mark root paths
         → FirstCanBeGiven (length out) before paths

@@ -24,12 +24,12 @@ register_none [] e = refl
 register_none (byte ∷ bytes) e = absurd (suc-ne-zero (length bytes) e)
 
 -- The register goes on from the first byte.
-pub register-first :
+pub register_first :
     (bytes : List ℕ) (first last : ℕ) → 0 < length bytes → first ≡ byte_step 0xFFFFFFFF (get_or bytes 0 0)
     → last ≡ foldl byte_step first (take (length bytes - 1) (drop 1 bytes)) → last ≡ register bytes
 unfolding register
-register-first [] first last some e f = absurd (not-suc-le-zero some)
-register-first (byte ∷ bytes) first last some e f =
+register_first [] first last some e f = absurd (not-suc-le-zero some)
+register_first (byte ∷ bytes) first last some e f =
     let rest : length bytes ≤ length (byte ∷ bytes) - 1 = omega arith in
     f ∙ ap₂ (λ (r : ℕ) (s : List ℕ). foldl byte_step r s) e (take_all (length (byte ∷ bytes) - 1) bytes rest)
 

@@ -51,36 +51,36 @@ shifted_out p q a b =
     ∙ ap₂ (λ (x y : ℕ). (x + y) % 2) first second
     ∙ digit_xor ((p + a % 2) % 2) ((q + b % 2) % 2) (is_digit (p + a % 2)) (is_digit (q + b % 2))
 
-bit-both :
+bit_both :
     (p q a b : ℕ) → bit_step (bit_xor p q) (bit_xor a b % 2) ≡ bit_xor (bit_step p (a % 2)) (bit_step q (b % 2))
 unfolding bit_step
-bit-both p q a b =
+bit_both p q a b =
     let x = (p + a % 2) % 2 in
     let y = (q + b % 2) % 2 in
     ap₂ (λ (m n : ℕ). bit_xor m (n * polynomial)) (xor_half p q) (shifted_out p q a b)
     ∙ ap (bit_xor (bit_xor (p / 2) (q / 2))) (digit_times polynomial x y (is_digit (p + a % 2)) (is_digit (q + b % 2)))
     ∙ xor_four (p / 2) (q / 2) (x * polynomial) (y * polynomial)
 
-bits-both :
+bits_both :
     (k p q a b : ℕ)
     → foldl bit_step (bit_xor p q) (bits k (bit_xor a b)) ≡ bit_xor (foldl bit_step p (bits k a)) (foldl bit_step q (bits k b))
 unfolding bits
-bits-both zero p q a b = refl
-bits-both (suc k) p q a b =
-    ap₂ (λ (r n : ℕ). foldl bit_step r (bits k n)) (bit-both p q a b) (xor_half a b)
-    ∙ bits-both k (bit_step p (a % 2)) (bit_step q (b % 2)) (a / 2) (b / 2)
+bits_both zero p q a b = refl
+bits_both (suc k) p q a b =
+    ap₂ (λ (r n : ℕ). foldl bit_step r (bits k n)) (bit_both p q a b) (xor_half a b)
+    ∙ bits_both k (bit_step p (a % 2)) (bit_step q (b % 2)) (a / 2) (b / 2)
 
 -- Two registers and two bytes, added or apart.
 pub byte_both : (p q a b : ℕ) → byte_step (bit_xor p q) (bit_xor a b) ≡ bit_xor (byte_step p a) (byte_step q b)
 unfolding byte_step
-byte_both p q a b = bits-both 8 p q a b
+byte_both p q a b = bits_both 8 p q a b
 
 -- What is added to the register before a byte is there after it, moved past a zero byte.
 pub byte_xor : (p q b : ℕ) → byte_step (bit_xor p q) b ≡ bit_xor (byte_step p b) (byte_step q 0)
 byte_xor p q b = ap (byte_step (bit_xor p q)) (sym (xor_zero_r b)) ∙ byte_both p q b 0
 
 pub bit_xor_lem : (p q : ℕ) → bit_step (bit_xor p q) 0 ≡ bit_xor (bit_step p 0) (bit_step q 0)
-bit_xor_lem p q = bit-both p q 0 0
+bit_xor_lem p q = bit_both p q 0 0
 
 -- Nothing comes of nothing.
 pub byte_zero : byte_step 0 0 ≡ 0

@@ -54,8 +54,8 @@ fold_row [] r = refl
 fold_row (b ∷ bytes) r = fold_row bytes (step crc_row r b) ∙ ap (λ (n : ℕ). foldl byte_step n bytes) (step_row r b)
 
 -- What slicing answers.
-pub fold-lent :
+pub fold_lent :
     (tables bytes : List ℕ) (r : ℕ) → tables ≡ crc_rows → foldl (step (take 256 tables)) r bytes ≡ foldl byte_step r bytes
 unfolding crc_rows
-fold-lent tables bytes r e =
+fold_lent tables bytes r e =
     ap (λ (row : List ℕ). foldl (step row) r bytes) (ap (take 256) e ∙ rows_first row_linear) ∙ fold_row bytes r

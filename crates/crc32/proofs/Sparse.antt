@@ -32,22 +32,22 @@ zeros_bit (suc n) r = ap (moved n) (byte_bit r) ∙ zeros_bit n (byte_step r 0)
 abbrev pub sum : ℕ → ℕ → ℕ → ℕ → ℕ
 sum a b c d = bit_xor (bit_xor (bit_xor a b) c) d
 
-pub sum-cong :
+pub sum_cong :
     {a b c d p q r s : ℕ} → a ≡ p → b ≡ q → c ≡ r → d ≡ s → sum a b c d ≡ sum p q r s
-sum-cong ea eb ec ed = ap₂ bit_xor (ap₂ bit_xor (ap₂ bit_xor ea eb) ec) ed
+sum_cong ea eb ec ed = ap₂ bit_xor (ap₂ bit_xor (ap₂ bit_xor ea eb) ec) ed
 
-pub sum-xor :
+pub sum_xor :
     (a b c d p q r s : ℕ)
     → sum (bit_xor a p) (bit_xor b q) (bit_xor c r) (bit_xor d s) ≡ bit_xor (sum a b c d) (sum p q r s)
-sum-xor a b c d p q r s =
+sum_xor a b c d p q r s =
     ap (λ (n : ℕ). bit_xor (bit_xor n (bit_xor c r)) (bit_xor d s)) (xor_four a p b q)
     ∙ ap (λ (n : ℕ). bit_xor n (bit_xor d s)) (xor_four (bit_xor a b) (bit_xor p q) c r)
     ∙ xor_four (bit_xor (bit_xor a b) c) (bit_xor (bit_xor p q) r) d s
 
-pub byte-sum :
+pub byte_sum :
     (a b c d p q r s : ℕ)
     → byte_step (sum a b c d) (sum p q r s) ≡ sum (byte_step a p) (byte_step b q) (byte_step c r) (byte_step d s)
-byte-sum a b c d p q r s =
+byte_sum a b c d p q r s =
     byte_both (bit_xor (bit_xor a b) c) d (bit_xor (bit_xor p q) r) s
     ∙ ap (λ (n : ℕ). bit_xor n (byte_step d s))
     (byte_both (bit_xor a b) c (bit_xor p q) r ∙ ap (λ (n : ℕ). bit_xor n (byte_step c r)) (byte_both a b p q))
@@ -66,14 +66,14 @@ spared_xor : (a b : ℕ) → spared a ≡ a → spared b ≡ b → spared (bit_x
 unfolding spared
 spared_xor a b ea eb =
     let apart : (n : ℕ) → moved n (bit_xor a b) ≡ bit_xor (moved n a) (moved n b) = λ n. zeros_xor byte_step byte_xor n a b in
-    sum-cong (apart 300) (apart 155) (apart 117) (apart 89)
-    ∙ sum-xor (moved 300 a) (moved 155 a) (moved 117 a) (moved 89 a) (moved 300 b) (moved 155 b) (moved 117 b) (moved 89 b)
+    sum_cong (apart 300) (apart 155) (apart 117) (apart 89)
+    ∙ sum_xor (moved 300 a) (moved 155 a) (moved 117 a) (moved 89 a) (moved 300 b) (moved 155 b) (moved 117 b) (moved 89 b)
     ∙ ap₂ bit_xor ea eb
 
 spared_bit : (r : ℕ) → spared r ≡ r → spared (bit_step r 0) ≡ bit_step r 0
 unfolding spared
 spared_bit r e =
-    sum-cong (zeros_bit 300 r) (zeros_bit 155 r) (zeros_bit 117 r) (zeros_bit 89 r)
+    sum_cong (zeros_bit 300 r) (zeros_bit 155 r) (zeros_bit 117 r) (zeros_bit 89 r)
     ∙ sym (bit_sum (moved 300 r) (moved 155 r) (moved 117 r) (moved 89 r))
     ∙ ap (λ (n : ℕ). bit_step n 0) e
 

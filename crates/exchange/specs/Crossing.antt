@@ -92,7 +92,7 @@ pub record Crossing : Type 0 where
       → bookmark_of mark.offset (flag_number mark.due) (timed_number mark.last) (time_number mark.last) mark.number ≡ mark
   -- hdrfs_header, hdrfs_read, hdrfs_check
   pub header : (volume : List ℕ) → Crosses heading_numbers header_back (header_answer volume)
-  pub header-parts :
+  pub header_parts :
       (volume : List ℕ)
       → (heading_numbers (header_answer volume)).refusal ≡ 0
       → FieldTold "file system ID" volume (heading_numbers (header_answer volume)).id
@@ -115,7 +115,7 @@ pub record Crossing : Type 0 where
   pub extent : (list : List ℕ) (index : ℕ) → Crosses extent_numbers extent_back (extent_at list index)
   -- hdrfs_link, and all links of a table that is handed out: the links by which its bytes keep the rules
   pub link : (links : List ℕ) (at : ℕ) → Crosses link_numbers link_back (link_from links at)
-  pub table-links :
+  pub table_links_lem :
       (volume : List ℕ) (mark : Bookmark) (found : Found) (table : TableBlock)
       → Bytes volume
       → read_answer volume mark ≡ ReadAnswer.Found found
@@ -132,7 +132,7 @@ pub record Crossing : Type 0 where
       → state_of (put lent 0 (state_bytes state)) ≡ state
   pub new_state : SizedState new
   -- lent bytes that are taken for a state, made up or not, are the bytes of that state, which is sized
-  pub lent-state :
+  pub lent_state :
       (lent : List ℕ)
       → Bytes lent
       → 104 ≤ length lent

@@ -10,7 +10,9 @@ pub distance-requires : goal.distance-requires
 distance-requires c = (keeps_position _ _ c.requires.1).0
 
 pub overflow_add-raw : goal.overflow_add-raw
-overflow_add-raw c = let s = c in omega (arith, (bounds s).raw, raw_below _ _ s.requires.0 s.requires.1)
+overflow_add-raw c =
+    let bounds : Bounded c.args.e = sound_bounded c.args.e c.requires.0 in
+    omega (arith, bounds.raw, raw_below _ _ c.requires.0 c.requires.1)
 
 pub overflow_mul-e : goal.overflow_mul-e
 overflow_mul-e c =
