@@ -7,22 +7,25 @@ use Rattle.counts.proofs.Counts.{within, counted_small, counted_more, settled, s
 use Rattle.counts.proofs.count_levels.Goals as goal
 
 pub loop-left-init : goal.loop-left-init
-loop-left-init c = ((omega arith, refl), ((refl, refl), c.requires.1.1))
+loop-left-init c = ((omega arith, refl), ((refl, refl), c.requires.indexed.1))
 
 pub count_level-requires : goal.count_level-requires
 count_level-requires c =
     let o = c.loop-left in
-    let x = c.requires.1.0 in
-    ((omega arith, omega arith), (within _ _ _ _ x, counted_small _ _ _ _ x o.counts o.left o.invariant.1.1))
+    let x = c.requires.indexed.0 in
+    record {
+      links_in_bounds = (omega arith, omega arith);
+      within = (within _ _ _ _ x, counted_small _ _ _ _ x o.counts o.left o.invariant.1.1);
+    }
 
 pub is_same-requires : goal.is_same-requires
 is_same-requires c =
-    let k = c.count_level.auto.1.1.1.1.0 in
+    let k = c.count_level.auto.counts in
     (omega arith, omega arith)
 
 pub returns-then-is_same : goal.returns-then-is_same
 returns-then-is_same c =
-    let x = c.requires.1.0 in
+    let x = c.requires.indexed.0 in
     let o = c.loop-left in
     let same = c.is_same.ensures c.if-is_same.true in
     let follows = same_follows _ _ _ _ x o.counts _ same c.count_level.ensures in
@@ -31,29 +34,30 @@ returns-then-is_same c =
 pub count_level-requires-in-loop-left : goal.count_level-requires-in-loop-left
 count_level-requires-in-loop-left c =
     let more : let a = c.args in
-    Counted a.parents.now a.children.now c.count_level.new.1.1.1.1.0 (suc c.loop-left.left) = let o = c.loop-left in
-    let x = c.requires.1.0 in
+    Counted a.parents.now a.children.now c.count_level.new.counts (suc c.loop-left.left) = let o = c.loop-left in
+    let x = c.requires.indexed.0 in
     counted_more _ _ _ _ x o.counts _ o.left c.count_level.ensures o.invariant.1.1 in
-    let x = c.requires.1.0 in
-    let k = c.count_level.auto.1.1.1.1.0 in
-    let o = c.loop-left in (
-      (omega arith, omega arith),
-      (within _ _ _ _ x, counted_small _ _ _ _ x c.count_level.new.1.1.1.1.0 (suc o.left) more),
-    )
+    let x = c.requires.indexed.0 in
+    let k = c.count_level.auto.counts in
+    let o = c.loop-left in
+    record {
+      links_in_bounds = (omega arith, omega arith);
+      within = (within _ _ _ _ x, counted_small _ _ _ _ x c.count_level.new.counts (suc o.left) more);
+    }
 
 pub loop-left-preserved : goal.loop-left-preserved
 loop-left-preserved c =
     let more : let a = c.args in
-    Counted a.parents.now a.children.now c.count_level.new.1.1.1.1.0 (suc c.loop-left.left) = let o = c.loop-left in
-    let x = c.requires.1.0 in
+    Counted a.parents.now a.children.now c.count_level.new.counts (suc c.loop-left.left) = let o = c.loop-left in
+    let x = c.requires.indexed.0 in
     counted_more _ _ _ _ x o.counts _ o.left c.count_level.ensures o.invariant.1.1 in
-    let x = c.requires.1.0 in
+    let x = c.requires.indexed.0 in
     let o = c.loop-left in
     let second = c.count_level-in-loop-left in
     let e : o.left + 2 ≡ suc (suc o.left) = omega arith in (
       (omega arith, omega arith),
       (
-        (second.auto.1.1.1.1.0 ∙ o.invariant.1.0.0, c.count_level.auto.1.1.1.1.0 ∙ o.invariant.1.0.1),
+        (second.auto.counts ∙ o.invariant.1.0.0, c.count_level.auto.counts ∙ o.invariant.1.0.1),
         rw e (counted_more _ _ _ _ x _ _ _ second.ensures more),
       ),
     )

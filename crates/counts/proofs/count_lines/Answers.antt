@@ -8,12 +8,15 @@ use Rattle.counts.proofs.count_lines.Goals as goal
 
 pub count_levels-requires : goal.count_levels-requires
 count_levels-requires c =
-    let x = c.requires.1.1.1 in
+    let x = c.requires.first_in_bounds.1.1 in
     let none = c.count_none in
-    let k = none.auto.1.0 in
-    ((omega arith, c.requires.0.1), (x, bottom_counted _ _ _ _ x _ none.ensures))
+    let k = none.auto.counts in
+    record {
+      parents_in_bounds = (omega arith, c.requires.parents_in_bounds.1);
+      indexed = (x, bottom_counted _ _ _ _ x _ none.ensures);
+    }
 
 pub returns : goal.returns
 returns c =
-    let counted = c.count_levels.ensures c.args.first c.requires.1.0 in
-    c.answer_of.ensures ∙ answer_all _ [] _ _ c.requires.1.1.0 counted
+    let counted = c.count_levels.ensures c.args.first c.requires.first_in_bounds.0 in
+    c.answer_of.ensures ∙ answer_all _ [] _ _ c.requires.first_in_bounds.1.0 counted

@@ -13,17 +13,17 @@ returns-then-is_headed c =
     (at < s.count) × (parent_of s.parents.now (get_or s.heads.now at 0) ≡ parent_of s.parents.now s.i) = headed _ _ _ _ (sym c.is_headed.ensures ∙ c.if-is_headed.true) in
     let at = c.place_of-place in
     let h = head in
-    let heads = c.requires.1.1.0 in
+    let heads = c.requires.i_in_bounds.1.0 in
     let found = found_head _ _ _ _ heads _ _ at.ensures h.0 h.1 in (
-      replaced _ _ _ _ _ c.requires.1.0 heads at.ensures (omega arith) h.0 h.1,
-      chained_more _ c.args.nexts.now c.args.i _ (omega arith) c.requires.1.1.1 found,
+      replaced _ _ _ _ _ c.requires.i_in_bounds.0 heads at.ensures (omega arith) h.0 h.1,
+      chained_more _ c.args.nexts.now c.args.i _ (omega arith) c.requires.i_in_bounds.1.1 found,
     )
 
 pub returns : goal.returns
 returns c =
     let at = c.place_of-place in
     let none = not_headed _ _ _ _ (sym c.is_headed.ensures ∙ c.if-is_headed.false) in
-    let heads = c.requires.1.1.0 in (
-      put_in _ _ _ _ _ c.requires.1.0 heads at.ensures _ none c.insert.ensures,
-      chained_more _ c.args.nexts.now c.args.i _ (omega arith) c.requires.1.1.1 (no_head _ _ _ _ heads _ _ at.ensures none),
+    let heads = c.requires.i_in_bounds.1.0 in (
+      put_in _ _ _ _ _ c.requires.i_in_bounds.0 heads at.ensures _ none c.insert.ensures,
+      chained_more _ c.args.nexts.now c.args.i _ (omega arith) c.requires.i_in_bounds.1.1 (no_head _ _ _ _ heads _ _ at.ensures none),
     )

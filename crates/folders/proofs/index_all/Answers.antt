@@ -7,11 +7,11 @@ returns c =
     let chain = c.chain_all-count in
     let heads = c.open_all in (
       record {
-        paired = c.requires.0.1;
-        next_each = omega (arith, chain.auto.1.1.0);
-        first_each = omega (arith, heads.auto.1.1.1.1.0);
+        paired = c.requires.parents_len_bound.1;
+        next_each = omega (arith, chain.auto.nexts);
+        first_each = omega (arith, heads.auto.firsts);
         chained = chain.ensures.1;
-        opened = rw c.requires.0.1 at heads.ensures;
+        opened = rw c.requires.parents_len_bound.1 at heads.ensures;
       },
       c.first_of.ensures,
     )

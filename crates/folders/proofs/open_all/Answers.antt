@@ -9,19 +9,10 @@ pub loop-i-init : goal.loop-i-init
 loop-i-init c = (omega arith, (refl, λ i l. absurd (omega arith)))
 
 pub first_of-requires : goal.first_of-requires
-first_of-requires c = (c.requires.0.1.1, c.requires.1)
+first_of-requires c = (c.requires.parents_len_bound.1.1, c.requires.heads)
 
 pub overflow_cast-firsts : goal.overflow_cast-firsts
 overflow_cast-firsts c = let w = c.first_of.ensures.within in omega arith
-
-pub bounds-firsts-i : goal.bounds-firsts-i
-bounds-firsts-i c = omega arith
-
-pub overflow_add-i : goal.overflow_add-i
-overflow_add-i c = omega arith
-
-pub loop-i-smaller : goal.loop-i-smaller
-loop-i-smaller c = omega arith
 
 pub loop-i-preserved : goal.loop-i-preserved
 loop-i-preserved c =

@@ -19,38 +19,44 @@ tree-lines links root first parents children p q next = rw (← next.same, p, q)
 
 pub slice_bounds-index_all-end-2 : goal.slice_bounds-index_all-end-2
 slice_bounds-index_all-end-2 c =
-    let parents-long : let count = c.args.count in length (take count c.load.new.1.1.0) ≡ count = length-take-le _ _ (omega (arith, c.load.auto.1.1.0)) in
+    let parents-long : let count = c.args.count in length (take count c.load.new.parents) ≡ count = length-take-le _ _ (omega (arith, c.load.auto.parents)) in
     sym parents-long
 
 pub slice_bounds-index_all-end-4 : goal.slice_bounds-index_all-end-4
 slice_bounds-index_all-end-4 c =
-    let children-long : let count = c.args.count in length (take count c.load.new.1.1.1.0) ≡ count = length-take-le _ _ (omega (arith, c.load.auto.1.1.1.0)) in
+    let children-long : let count = c.args.count in length (take count c.load.new.children) ≡ count = length-take-le _ _ (omega (arith, c.load.auto.children)) in
     sym children-long
 
 pub index_all-first-requires : goal.index_all-first-requires
 index_all-first-requires c =
-    let parents-long : let count = c.args.count in length (take count c.load.new.1.1.0) ≡ count = length-take-le _ _ (omega (arith, c.load.auto.1.1.0)) in
-    let children-long : let count = c.args.count in length (take count c.load.new.1.1.1.0) ≡ count = length-take-le _ _ (omega (arith, c.load.auto.1.1.1.0)) in
+    let parents-long : let count = c.args.count in length (take count c.load.new.parents) ≡ count = length-take-le _ _ (omega (arith, c.load.auto.parents)) in
+    let children-long : let count = c.args.count in length (take count c.load.new.children) ≡ count = length-take-le _ _ (omega (arith, c.load.auto.children)) in
     let p = parents-long in
     let q = children-long in
-    ((omega arith, q ∙ sym p), (omega arith, (omega arith, omega arith)))
+    record {
+      parents_len_bound = (omega arith, q ∙ sym p);
+      parents_in_bounds = (omega arith, (omega arith, omega arith));
+    }
 
 pub slice_bounds-list_from-end-2 : goal.slice_bounds-list_from-end-2
 slice_bounds-list_from-end-2 c =
-    let parents-long : let count = c.args.count in length (take count c.load.new.1.1.0) ≡ count = length-take-le _ _ (omega (arith, c.load.auto.1.1.0)) in
+    let parents-long : let count = c.args.count in length (take count c.load.new.parents) ≡ count = length-take-le _ _ (omega (arith, c.load.auto.parents)) in
     sym parents-long
 
 pub slice_bounds-list_from-end-4 : goal.slice_bounds-list_from-end-4
 slice_bounds-list_from-end-4 c =
-    let children-long : let count = c.args.count in length (take count c.load.new.1.1.1.0) ≡ count = length-take-le _ _ (omega (arith, c.load.auto.1.1.1.0)) in
+    let children-long : let count = c.args.count in length (take count c.load.new.children) ≡ count = length-take-le _ _ (omega (arith, c.load.auto.children)) in
     sym children-long
 
 pub list_from-requires : goal.list_from-requires
 list_from-requires c =
-    let parents-long : let count = c.args.count in length (take count c.load.new.1.1.0) ≡ count = length-take-le _ _ (omega (arith, c.load.auto.1.1.0)) in
+    let parents-long : let count = c.args.count in length (take count c.load.new.parents) ≡ count = length-take-le _ _ (omega (arith, c.load.auto.parents)) in
     let p = parents-long in
     let index = c.index_all-first.ensures in
-    ((omega (arith, c.requires.1.1.0), omega (arith, c.requires.1.1.1)), (index.1.within, index.0))
+    record {
+      parents_in_bounds = (omega (arith, c.requires.count_in_bounds_2.0), omega (arith, c.requires.count_in_bounds_2.1));
+      first_in_bounds = (index.1.within, index.0);
+    }
 
 pub returns : goal.returns
 returns c =
