@@ -8,7 +8,7 @@ pub loop-i-preserved : goal.loop-i-preserved
 loop-i-preserved c =
     let head = c.loop-i in
     let hash = c.hash_block-words in
-    (omega arith, (hash.ensures.0, blocks_turn hashed head.words _ _ c.args.bytes.now head.i (omega arith) hash.ensures.1 head.invariant.1.1))
+    (omega arith, (hash.ensures.long, blocks_turn hashed head.words _ _ c.args.bytes.now head.i (omega arith) hash.ensures.words head.invariant.1.1))
 
 pub returns : goal.returns
 returns c =

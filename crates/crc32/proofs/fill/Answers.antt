@@ -3,4 +3,4 @@ use Rattle.crc32.proofs.Row.{rows_made}
 use Rattle.crc32.proofs.fill.Goals as goal
 
 pub returns : goal.returns
-returns c = rows_made _ _ c.fill_first.ensures.1 c.fill_rows.ensures
+returns c = rows_made _ _ c.fill_first.ensures.row c.fill_rows.ensures

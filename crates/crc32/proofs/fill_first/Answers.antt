@@ -37,4 +37,4 @@ pub returns : goal.returns
 returns c =
     let end : c.loop-i.i ≡ 256 = omega arith in
     let inv = rw end at c.loop-i.invariant in
-    (inv.1.long, row_filled c.loop-i.tables inv.1)
+    record { long = inv.1.long; row = row_filled c.loop-i.tables inv.1 }

@@ -11,28 +11,22 @@ use Rattle.digests.specs.States.{SizedState, state_of}
 use Rattle.digests.proofs.Handed.{hit, miss, clear, handed, feed_refused, feed_done}
 use Rattle.digests.proofs.feed.Goals as goal
 
-sized : (state : Digest)
-    → (Fits w32 state.words.a × (Fits w32 state.words.b × (Fits w32 state.words.c × (Fits w32 state.words.d
-    × (Fits w32 state.words.e × (Fits w32 state.words.f × (Fits w32 state.words.g × (Fits w32 state.words.h × Unit {0}))))))))
-    → Fits w64 state.fed → length state.held ≡ 64 → SizedState state
-sized state words fed long = record { fit = search rules; long = long }
-
 pub returns-then-state-lt-STATE : goal.returns-then-state-lt-STATE
 returns-then-state-lt-STATE c =
     let h = handed (hit (lt-ltb _ _ c.if-state-lt-STATE.true) refl) in
-    (h.0, (h.1, λ none. absurd (omega arith)))
+    record { answer = h.0; state = h.1; sized = λ none. absurd (omega arith) }
 
 pub returns-then-fed-ne0 : goal.returns-then-fed-ne0
 returns-then-fed-ne0 c =
     let args = c.args in
     let r = feed_refused (state_of args.state.now) args.part.now (c.feed-fed.ensures ∙ rw c.read_state.ensures) c.if-fed-ne0.true in
     let h = handed (miss (le-ltb _ _ c.if-state-lt-STATE.false) (hit r.1 refl)) in
-    (r.0 ∙ h.0, (h.1, λ none. absurd (c.if-fed-ne0.true none)))
+    record { answer = r.0 ∙ h.0; state = h.1; sized = λ none. absurd (c.if-fed-ne0.true none) }
 
 pub returns : goal.returns
 returns c =
     let args = c.args in
     let r = feed_done (state_of args.state.now) args.part.now (c.feed-fed.ensures ∙ rw c.read_state.ensures) c.if-fed-ne0.false in
-    let h = handed (miss (le-ltb _ _ c.if-state-lt-STATE.false) (miss r.0 (clear (rw r.1 at c.write_state.ensures.0)))) in
-    let known = c.struct_known-1.given.1.0 in
-    (h.0, (h.1, λ none. rw r.1 at (sized c.feed-fed.result.state known.0 known.1.0 c.write_state.ensures.1)))
+    let h = handed (miss (le-ltb _ _ c.if-state-lt-STATE.false) (miss r.0 (clear (rw r.1 at c.write_state.ensures.state)))) in
+    let known : SizedState c.feed-fed.result.state = record { fit = search rules; long = c.write_state.ensures.long } in
+    record { answer = h.0; state = h.1; sized = λ none. rw r.1 at known }

@@ -5,4 +5,6 @@ use Rattle.digests.proofs.whole.Goals as goal
 pub returns : goal.returns
 returns c =
     let args = c.args in
-    whole_handed args.out.now args.bytes.now c.sha256.ensures c.hand_out.ensures
+    let out = c.hand_out.ensures in
+    let h = whole_handed args.out.now args.bytes.now c.sha256.ensures (out.answer, out.out) in
+    record { answer = h.0; out = h.1 }

@@ -28,4 +28,4 @@ loop-t-preserved c =
 pub returns : goal.returns
 returns c =
     let head = c.loop-t in
-    (head.invariant.1.1.0.long, rounds_end head.v _ c.args.k.now _ head.t (omega (arith, c.requires)) head.invariant.1.1.1)
+    record { long = head.invariant.1.1.0.long; words = rounds_end head.v _ c.args.k.now _ head.t (omega (arith, c.requires)) head.invariant.1.1.1 }

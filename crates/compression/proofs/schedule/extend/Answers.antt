@@ -19,4 +19,4 @@ loop-i-preserved c =
 pub returns : goal.returns
 returns c =
     let head = c.loop-i in
-    (head.invariant.1.1.0, extend_end head.schedule _ head.i (c.args.t + 8) (omega arith) head.invariant.1.1.1)
+    record { long = head.invariant.1.1.0; words = extend_end head.schedule _ head.i (c.args.t + 8) (omega arith) head.invariant.1.1.1 }

@@ -17,4 +17,4 @@ pub returns : goal.returns
 returns c =
     let head = c.loop-t in
     let end : head.t ≡ 16 = omega arith in
-    (head.invariant.1.0, rw end at head.invariant.1.1 ∙ take_all 16 _ (omega (arith, words-length c.args.block.now)))
+    record { long = head.invariant.1.0; words = rw end at head.invariant.1.1 ∙ take_all 16 _ (omega (arith, words-length c.args.block.now)) }

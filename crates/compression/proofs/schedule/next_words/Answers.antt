@@ -10,4 +10,4 @@ returns-then-t-lt16 c =
 pub returns : goal.returns
 returns c =
     let extend = c.extend in
-    λ first has. words_more first _ _ c.args.t (omega arith) extend.ensures.0 extend.ensures.1 has
+    λ first has. words_more first _ _ c.args.t (omega arith) extend.ensures.long extend.ensures.words has

@@ -13,4 +13,4 @@ returns c =
     let last = c.write_last in
     c.hash_blocks.ensures
     ∙ ap (λ (bytes : List ℕ). foldl hashed s.words (blocks bytes))
-    (part_padded s.fed _ _ last.new.0 _ c.in_use.ensures c.padded_len-len.ensures last.ensures.1)
+    (part_padded s.fed _ _ last.new.last _ c.in_use.ensures c.padded_len-len.ensures last.ensures.padded)
