@@ -11,7 +11,7 @@ use Rattle.number.proofs.Parts.{part_span}
 use Rattle.number.specs.Number.{part}
 use Rattle.checks.specs.Checks.{Check, check, miss, first_fault}
 use Rattle.checks.proofs.Laws.{decided, rest, numbered, continued}
-use Rattle.checks.proofs.Tests.{told_not}
+use Rattle.checks.proofs.Tests.{told}
 use Rattle.utf8.specs.inner.Length.{is_text}
 use Rattle.format.specs.Blocks.{Kind, link_block, unlink_block}
 use Rattle.block.specs.Fields.{fixed_length, body_length}
@@ -19,11 +19,11 @@ use Rattle.block.specs.Order.{fixed_fields_cut, kind_order}
 
 -- a text that is tested after a table without a fault, as the part of the volume between two offsets
 pub text_next : (a : List Check) (volume : List ℕ) (from n : ℕ) {m : ℕ} {r t : Bool} → T (numbered a) → m ≡ first_fault a → m ≡ 0
-    → r ≡ is_text (part volume from (from + n - from)) → not r ≡ t
-    → cond t 10 0 ≡ first_fault (a ++ (check (not (is_text (part volume from n))) 10 ∷ []))
+    → r ≡ is_text (part volume from (from + n - from)) → r ≡ t
+    → cond (not t) 10 0 ≡ first_fault (a ++ (check (not (is_text (part volume from n))) 10 ∷ []))
 unfolding first_fault
 text_next a volume from n p e z f h =
-    continued a (check (not (is_text (part volume from n))) 10 ∷ []) p e z (rw (← told_not (rw part_span at f) h))
+    continued a (check (not (is_text (part volume from n))) 10 ∷ []) p e z (rw (← told (rw part_span at f) h))
 
 -- the table of a kind once the fixed fields are there
 pub fields_there : (kind : Kind) (volume : List ℕ) (offset : ℕ) (others : List Check) {m : ℕ} → offset + fixed_length kind ≤ length volume

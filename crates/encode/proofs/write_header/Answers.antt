@@ -8,5 +8,5 @@ pub returns : goal.returns
 unfolding header_image
 returns c =
     let header : Header = record { id = c.args.id.now; sequence = c.args.sequence; previous = c.args.previous.now } in
-    put_sealed c.args.buf.now (header_fields header) 0 76 (length-header_fields header c.requires.0 c.requires.1.0)
-    c.requires.1.1 c.write_header_fields.ensures c.seal.ensures
+    put_sealed c.args.buf.now (header_fields header) 0 76 (length-header_fields header c.requires.id_len c.requires.previous_len)
+    c.requires.in_bounds c.write_header_fields.ensures c.seal.ensures

@@ -26,6 +26,6 @@ fields-written header old l k h e f g =
 pub returns : goal.returns
 returns c =
     fields-written (record { id = c.args.id.now; sequence = c.args.sequence; previous = c.args.previous.now })
-    c.args.buf.now c.requires.0 c.requires.1.0 c.requires.1.1 c.write_bytes.ensures
+    c.args.buf.now c.requires.id_len c.requires.previous_len c.requires.in_bounds c.write_bytes.ensures
     (c.write_u8.ensures then last c.write_bytes-2.ensures)
     (c.write_u8-2.ensures then c.write_u8-3.ensures then c.write_u64.ensures then last c.write_bytes-3.ensures)

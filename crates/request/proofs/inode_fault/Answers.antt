@@ -23,7 +23,7 @@ returns-then-is_too_long c =
       size = a.size;
       rest = a.rest.now;
     })) = record { fit = omega arith; bytes = λ i. (c.type_inv.rest i).fits } in
-    (decided (search walks), sized)
+    record { fault = decided (search walks); sized = sized }
 
 pub rest_fault-requires : goal.rest_fault-requires
 rest_fault-requires c = search told
@@ -44,4 +44,4 @@ returns c =
       size = a.size;
       rest = a.rest.now;
     })) = record { fit = omega arith; bytes = λ i. (c.type_inv.rest i).fits } in
-    (decided (search walks), sized)
+    record { fault = decided (search walks); sized = sized }

@@ -16,7 +16,7 @@ returns-then-old-gt-LONG_MOST c =
       bytes = bytes-append a.old.now a.new.now
           (λ i. (c.type_inv.old i).fits) (λ i. (c.type_inv.new i).fits);
     } in
-    (decided (search walks depth 12), sized)
+    record { fault = decided (search walks depth 12); sized = sized }
 
 pub returns-then-new-gt-LONG_MOST : goal.returns-then-new-gt-LONG_MOST
 returns-then-new-gt-LONG_MOST c =
@@ -27,7 +27,7 @@ returns-then-new-gt-LONG_MOST c =
       bytes = bytes-append a.old.now a.new.now
           (λ i. (c.type_inv.old i).fits) (λ i. (c.type_inv.new i).fits);
     } in
-    (decided (search walks depth 12), sized)
+    record { fault = decided (search walks depth 12); sized = sized }
 
 pub returns-then-not-is_text : goal.returns-then-not-is_text
 returns-then-not-is_text c =
@@ -38,7 +38,7 @@ returns-then-not-is_text c =
       bytes = bytes-append a.old.now a.new.now
           (λ i. (c.type_inv.old i).fits) (λ i. (c.type_inv.new i).fits);
     } in
-    (decided (search walks depth 12), sized)
+    record { fault = decided (search walks depth 12); sized = sized }
 
 pub returns-then-not-is_text-2 : goal.returns-then-not-is_text-2
 returns-then-not-is_text-2 c =
@@ -49,7 +49,7 @@ returns-then-not-is_text-2 c =
       bytes = bytes-append a.old.now a.new.now
           (λ i. (c.type_inv.old i).fits) (λ i. (c.type_inv.new i).fits);
     } in
-    (decided (search walks depth 12), sized)
+    record { fault = decided (search walks depth 12); sized = sized }
 
 pub returns : goal.returns
 returns c =
@@ -60,4 +60,4 @@ returns c =
       bytes = bytes-append a.old.now a.new.now
           (λ i. (c.type_inv.old i).fits) (λ i. (c.type_inv.new i).fits);
     } in
-    (decided (search walks depth 12), sized)
+    record { fault = decided (search walks depth 12); sized = sized }

@@ -4,4 +4,4 @@ use Rattle.request.proofs.unlink_fault.Goals as goal
 
 pub returns : goal.returns
 returns c =
-    (c.name_fault.ensures, record { fit = omega arith; bytes = λ i. (c.type_inv.name i).fits })
+    record { fault = c.name_fault.ensures; sized = record { fit = omega arith; bytes = λ i. (c.type_inv.name i).fits } }

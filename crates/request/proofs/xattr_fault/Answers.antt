@@ -16,7 +16,7 @@ returns-then-value-gt-LONG_MOST c =
       bytes = bytes-append a.name.now a.value.now
           (λ i. (c.type_inv.name i).fits) (λ i. (c.type_inv.value i).fits);
     } in
-    (decided (search walks), sized)
+    record { fault = decided (search walks); sized = sized }
 
 pub returns : goal.returns
 returns c =
@@ -27,4 +27,4 @@ returns c =
       bytes = bytes-append a.name.now a.value.now
           (λ i. (c.type_inv.name i).fits) (λ i. (c.type_inv.value i).fits);
     } in
-    (decided (search walks), sized)
+    record { fault = decided (search walks); sized = sized }

@@ -31,7 +31,7 @@ rest_fault-requires c =
     let whole : let a = c.args in a.from + a.n + 4 ≤ length a.volume.now = let a = c.args in
     end_whole a.volume.now a.offset (a.from + a.n) [] tt c.sealed_fault-fault.ensures c.if-fault-ne0.false in
     let a = c.args in
-    rw (span-length a.volume.now a.from a.n (omega (arith, whole))) c.requires.1.2
+    rw (span-length a.volume.now a.from a.n (omega (arith, whole))) c.requires.offset_le_from.2
 
 pub returns : goal.returns
 returns c =

@@ -2,6 +2,7 @@
 use mathlib.Core.Path.{◌≡◌, refl, sym}
 use mathlib.Core.Bool.{Bool, true, false, cond}
 use Prim.Native.Nat.{ℕ, ◌/◌}
+use native.Mathlib.Omega.{arith}
 use lib.Dec.{eqb}
 use borrow.Author.Tests.{ne_eqb}
 use Rattle.format.specs.Blocks.{symbolic_link, other}
@@ -13,7 +14,7 @@ unlimited true n = refl
 unlimited false n = refl
 
 pub returns-in-8 : goal.returns-in-8
-returns-in-8 c = rw c.in-8.keys1
+returns-in-8 c = rw c.in-8.is
 
 pub returns-in_default : goal.returns-in_default
-returns-in_default c = rw (ne_eqb _ _ c.in_default.rest.1) (sym (unlimited (eqb (c.args.mode / 4096) 10) c.args.n))
+returns-in_default c = rw (ne_eqb (c.args.mode / 4096) 8 (omega arith)) (sym (unlimited (eqb (c.args.mode / 4096) 10) c.args.n))
