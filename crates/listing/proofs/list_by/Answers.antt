@@ -34,7 +34,11 @@ written volume out {none = []} {len = len} w h v =
 written volume out {none = byte ∷ rest} w h v = absurd (omega (arith, w.room))
 
 pub returns-then-out-len : goal.returns-then-out-len
-returns-then-out-len c = rw c.refuse.ensures (too_small c.args.volume.now c.args.out.now c.put_listing-len.ensures c.if-out-len.true)
+returns-then-out-len c =
+    let r = too_small c.args.volume.now c.args.out.now c.put_listing-len.ensures c.if-out-len.true in
+    record { answer = rw c.refuse.ensures r.0; room = r.1 }
 
 pub returns : goal.returns
-returns c = written c.args.volume.now c.args.out.now c.put_listing-len.ensures c.if-out-len.false c.put_listing.ensures
+returns c =
+    let r = written c.args.volume.now c.args.out.now c.put_listing-len.ensures c.if-out-len.false c.put_listing.ensures in
+    record { answer = r.0; room = r.1 }

@@ -43,23 +43,23 @@ returns-then-volume-gt-LIST_LIMIT c = rest-written (over _ c.if-volume-gt-LIST_L
 pub put_lines-requires : goal.put_lines-requires
 unfolding after_heading
 put_lines-requires c =
-    let sound : listing c.args.volume.now ≡ heading_line ++ lines_from c.args.volume.now c.header-1.given.0.0.next = after _ c.if-volume-gt-LIST_LIMIT.false (sym c.read_header_by.ensures ∙ c.header-1.given.1) in
-    (search rules, rest-fits _ sound c.put_word-at.ensures)
+    let sound : listing c.args.volume.now ≡ heading_line ++ lines_from c.args.volume.now c.in-Accepted.header.next = after _ c.if-volume-gt-LIST_LIMIT.false (sym c.in-Accepted.ensures) in
+    record { lent = c.requires; first_bound = rest-fits _ sound c.put_word-at.ensures }
 
 pub refused_line-requires-in-Refused : goal.refused_line-requires-in-Refused
 unfolding after_heading
 refused_line-requires-in-Refused c =
-    let unsound : listing c.args.volume.now ≡ heading_line ++ refused_line c.why-1.given.0.0.number 0 = after _ c.if-volume-gt-LIST_LIMIT.false (sym c.read_header_by.ensures ∙ c.why-1.given.1) in
+    let unsound : listing c.args.volume.now ≡ heading_line ++ refused_line c.in-Refused.why.number 0 = after _ c.if-volume-gt-LIST_LIMIT.false (sym c.in-Refused.ensures) in
     rest-fits _ unsound c.put_word-at.ensures
 
 pub returns-in-Accepted : goal.returns-in-Accepted
 unfolding after_heading
 returns-in-Accepted c =
-    let sound : listing c.args.volume.now ≡ heading_line ++ lines_from c.args.volume.now c.header-1.given.0.0.next = after _ c.if-volume-gt-LIST_LIMIT.false (sym c.read_header_by.ensures ∙ c.header-1.given.1) in
+    let sound : listing c.args.volume.now ≡ heading_line ++ lines_from c.args.volume.now c.in-Accepted.header.next = after _ c.if-volume-gt-LIST_LIMIT.false (sym c.in-Accepted.ensures) in
     rest-written sound c.put_word-at.ensures c.put_lines.ensures
 
 pub returns-in-Refused : goal.returns-in-Refused
 unfolding after_heading
 returns-in-Refused c =
-    let unsound : listing c.args.volume.now ≡ heading_line ++ refused_line c.why-1.given.0.0.number 0 = after _ c.if-volume-gt-LIST_LIMIT.false (sym c.read_header_by.ensures ∙ c.why-1.given.1) in
+    let unsound : listing c.args.volume.now ≡ heading_line ++ refused_line c.in-Refused.why.number 0 = after _ c.if-volume-gt-LIST_LIMIT.false (sym c.in-Refused.ensures) in
     rest-written unsound c.put_word-at.ensures c.refused_line-in-Refused.ensures

@@ -8,33 +8,44 @@ use Rattle.volume.proofs.Bookmark.append_inode.Goals as goal
 
 pub returns-then-fault-ne0 : goal.returns-then-fault-ne0
 returns-then-fault-ne0 c =
-    let here : let a = c.args in
-    Told a.buf.now a.self (Inode (record { inode = a.inode; time = a.time; mode = a.mode; uid = a.uid; gid = a.gid; atime = a.atime; mtime = a.mtime; ctime = a.ctime; btime = a.btime; size = a.size; rest = a.rest.now })) (length a.rest.now) c.append_fault-fault.result = let a = c.args in
-    told a.buf.now a.self (Inode (record { inode = a.inode; time = a.time; mode = a.mode; uid = a.uid; gid = a.gid; atime = a.atime; mtime = a.mtime; ctime = a.ctime; btime = a.btime; size = a.size; rest = a.rest.now }))
-    c.inode_fault-asked.ensures refl c.append_fault-fault.ensures in
-    refused here c.inode_refusal.ensures c.if-fault-ne0.true
+    let a = c.args in
+    let here : Told a.buf.now a.self (Inode (record { inode = a.inode; time = a.time; mode = a.mode; uid = a.uid; gid = a.gid; atime = a.atime; mtime = a.mtime; ctime = a.ctime; btime = a.btime; size = a.size; rest = a.rest.now })) (length a.rest.now) c.append_fault-fault.result
+    = told a.buf.now a.self (Inode (record { inode = a.inode; time = a.time; mode = a.mode; uid = a.uid; gid = a.gid; atime = a.atime; mtime = a.mtime; ctime = a.ctime; btime = a.btime; size = a.size; rest = a.rest.now })) (c.inode_fault-asked.ensures.fault, c.inode_fault-asked.ensures.sized) refl c.append_fault-fault.ensures in
+    let r = refused here c.inode_refusal.ensures c.if-fault-ne0.true in
+    record { answer = r.0; buffer = r.1.0; sized = r.1.1 }
 
 pub write_inode-requires : goal.write_inode-requires
 write_inode-requires c =
-    let here : let a = c.args in
-    Told a.buf.now a.self (Inode (record { inode = a.inode; time = a.time; mode = a.mode; uid = a.uid; gid = a.gid; atime = a.atime; mtime = a.mtime; ctime = a.ctime; btime = a.btime; size = a.size; rest = a.rest.now })) (length a.rest.now) c.append_fault-fault.result = let a = c.args in
-    told a.buf.now a.self (Inode (record { inode = a.inode; time = a.time; mode = a.mode; uid = a.uid; gid = a.gid; atime = a.atime; mtime = a.mtime; ctime = a.ctime; btime = a.btime; size = a.size; rest = a.rest.now }))
-    c.inode_fault-asked.ensures refl c.append_fault-fault.ensures in
+    let a = c.args in
+    let here : Told a.buf.now a.self (Inode (record { inode = a.inode; time = a.time; mode = a.mode; uid = a.uid; gid = a.gid; atime = a.atime; mtime = a.mtime; ctime = a.ctime; btime = a.btime; size = a.size; rest = a.rest.now })) (length a.rest.now) c.append_fault-fault.result
+    = told a.buf.now a.self (Inode (record { inode = a.inode; time = a.time; mode = a.mode; uid = a.uid; gid = a.gid; atime = a.atime; mtime = a.mtime; ctime = a.ctime; btime = a.btime; size = a.size; rest = a.rest.now })) (c.inode_fault-asked.ensures.fault, c.inode_fault-asked.ensures.sized) refl c.append_fault-fault.ensures in
     omega (arith, room_left here c.if-fault-ne0.false)
 
 pub overflow_add-offset : goal.overflow_add-offset
-overflow_add-offset c = let f = c in omega (arith, room_left (here f.before) f.if1.false)
+overflow_add-offset c =
+    let a = c.args in
+    let here : Told a.buf.now a.self (Inode (record { inode = a.inode; time = a.time; mode = a.mode; uid = a.uid; gid = a.gid; atime = a.atime; mtime = a.mtime; ctime = a.ctime; btime = a.btime; size = a.size; rest = a.rest.now })) (length a.rest.now) c.append_fault-fault.result
+    = told a.buf.now a.self (Inode (record { inode = a.inode; time = a.time; mode = a.mode; uid = a.uid; gid = a.gid; atime = a.atime; mtime = a.mtime; ctime = a.ctime; btime = a.btime; size = a.size; rest = a.rest.now })) (c.inode_fault-asked.ensures.fault, c.inode_fault-asked.ensures.sized) refl c.append_fault-fault.ensures in
+    omega (arith, room_left here c.if-fault-ne0.false)
 
 pub overflow_add-offset-2 : goal.overflow_add-offset-2
-overflow_add-offset-2 c = let f = c in omega (arith, room_left (here f.before) f.if1.false)
+overflow_add-offset-2 c =
+    let a = c.args in
+    let here : Told a.buf.now a.self (Inode (record { inode = a.inode; time = a.time; mode = a.mode; uid = a.uid; gid = a.gid; atime = a.atime; mtime = a.mtime; ctime = a.ctime; btime = a.btime; size = a.size; rest = a.rest.now })) (length a.rest.now) c.append_fault-fault.result
+    = told a.buf.now a.self (Inode (record { inode = a.inode; time = a.time; mode = a.mode; uid = a.uid; gid = a.gid; atime = a.atime; mtime = a.mtime; ctime = a.ctime; btime = a.btime; size = a.size; rest = a.rest.now })) (c.inode_fault-asked.ensures.fault, c.inode_fault-asked.ensures.sized) refl c.append_fault-fault.ensures in
+    omega (arith, room_left here c.if-fault-ne0.false)
 
 pub mark_after-requires : goal.mark_after-requires
-mark_after-requires c = let f = c in counted (here f.before) f.if1.false
+mark_after-requires c =
+    let a = c.args in
+    let here : Told a.buf.now a.self (Inode (record { inode = a.inode; time = a.time; mode = a.mode; uid = a.uid; gid = a.gid; atime = a.atime; mtime = a.mtime; ctime = a.ctime; btime = a.btime; size = a.size; rest = a.rest.now })) (length a.rest.now) c.append_fault-fault.result
+    = told a.buf.now a.self (Inode (record { inode = a.inode; time = a.time; mode = a.mode; uid = a.uid; gid = a.gid; atime = a.atime; mtime = a.mtime; ctime = a.ctime; btime = a.btime; size = a.size; rest = a.rest.now })) (c.inode_fault-asked.ensures.fault, c.inode_fault-asked.ensures.sized) refl c.append_fault-fault.ensures in
+    counted here c.if-fault-ne0.false
 
 pub returns : goal.returns
 returns c =
-    let here : let a = c.args in
-    Told a.buf.now a.self (Inode (record { inode = a.inode; time = a.time; mode = a.mode; uid = a.uid; gid = a.gid; atime = a.atime; mtime = a.mtime; ctime = a.ctime; btime = a.btime; size = a.size; rest = a.rest.now })) (length a.rest.now) c.append_fault-fault.result = let a = c.args in
-    told a.buf.now a.self (Inode (record { inode = a.inode; time = a.time; mode = a.mode; uid = a.uid; gid = a.gid; atime = a.atime; mtime = a.mtime; ctime = a.ctime; btime = a.btime; size = a.size; rest = a.rest.now }))
-    c.inode_fault-asked.ensures refl c.append_fault-fault.ensures in
-    accepted here c.if-fault-ne0.false c.write_inode.ensures c.mark_after.ensures
+    let a = c.args in
+    let here : Told a.buf.now a.self (Inode (record { inode = a.inode; time = a.time; mode = a.mode; uid = a.uid; gid = a.gid; atime = a.atime; mtime = a.mtime; ctime = a.ctime; btime = a.btime; size = a.size; rest = a.rest.now })) (length a.rest.now) c.append_fault-fault.result
+    = told a.buf.now a.self (Inode (record { inode = a.inode; time = a.time; mode = a.mode; uid = a.uid; gid = a.gid; atime = a.atime; mtime = a.mtime; ctime = a.ctime; btime = a.btime; size = a.size; rest = a.rest.now })) (c.inode_fault-asked.ensures.fault, c.inode_fault-asked.ensures.sized) refl c.append_fault-fault.ensures in
+    let r = accepted here c.if-fault-ne0.false c.write_inode.ensures c.mark_after.ensures in
+    record { answer = r.0; buffer = r.1.0; sized = r.1.1 }

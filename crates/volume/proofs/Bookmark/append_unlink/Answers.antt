@@ -8,34 +8,48 @@ use Rattle.volume.proofs.Bookmark.append_unlink.Goals as goal
 
 pub returns-then-fault-ne0 : goal.returns-then-fault-ne0
 returns-then-fault-ne0 c =
-    let here : let a = c.args in
-    Told a.buf.now a.self (Unlink (record { time = a.time; child = a.child; parent = a.parent; name = a.name.now })) (length a.name.now) c.append_fault-fault.result = let a = c.args in
-    told a.buf.now a.self (Unlink (record { time = a.time; child = a.child; parent = a.parent; name = a.name.now }))
-    c.unlink_fault-asked.ensures refl c.append_fault-fault.ensures in
-    refused here c.name_refusal.ensures c.if-fault-ne0.true
+    let a = c.args in
+    let here : Told a.buf.now a.self (Unlink (record { time = a.time; child = a.child; parent = a.parent; name = a.name.now })) (length a.name.now) c.append_fault-fault.result
+    = told a.buf.now a.self (Unlink (record { time = a.time; child = a.child; parent = a.parent; name = a.name.now })) (c.unlink_fault-asked.ensures.fault, c.unlink_fault-asked.ensures.sized) refl c.append_fault-fault.ensures in
+    let r = refused here c.name_refusal.ensures c.if-fault-ne0.true in
+    record { answer = r.0; buffer = r.1.0; sized = r.1.1 }
 
 pub write_unlink-requires : goal.write_unlink-requires
 write_unlink-requires c =
-    let here : let a = c.args in
-    Told a.buf.now a.self (Unlink (record { time = a.time; child = a.child; parent = a.parent; name = a.name.now })) (length a.name.now) c.append_fault-fault.result = let a = c.args in
-    told a.buf.now a.self (Unlink (record { time = a.time; child = a.child; parent = a.parent; name = a.name.now }))
-    c.unlink_fault-asked.ensures refl c.append_fault-fault.ensures in
-    let t = here in
-    (omega (arith, room_left t c.if-fault-ne0.false), (keeps t c.if-fault-ne0.false).fit.1.1.1.0)
+    let a = c.args in
+    let here : Told a.buf.now a.self (Unlink (record { time = a.time; child = a.child; parent = a.parent; name = a.name.now })) (length a.name.now) c.append_fault-fault.result
+    = told a.buf.now a.self (Unlink (record { time = a.time; child = a.child; parent = a.parent; name = a.name.now })) (c.unlink_fault-asked.ensures.fault, c.unlink_fault-asked.ensures.sized) refl c.append_fault-fault.ensures in
+    let lengths = keeps here c.if-fault-ne0.false in
+    record {
+      name_in_bounds = omega (arith, room_left here c.if-fault-ne0.false);
+      name_len_bound = lengths.fit.1.1.1.0;
+    }
 
 pub overflow_add-offset : goal.overflow_add-offset
-overflow_add-offset c = let f = c in omega (arith, room_left (here f.before) f.if1.false)
+overflow_add-offset c =
+    let a = c.args in
+    let here : Told a.buf.now a.self (Unlink (record { time = a.time; child = a.child; parent = a.parent; name = a.name.now })) (length a.name.now) c.append_fault-fault.result
+    = told a.buf.now a.self (Unlink (record { time = a.time; child = a.child; parent = a.parent; name = a.name.now })) (c.unlink_fault-asked.ensures.fault, c.unlink_fault-asked.ensures.sized) refl c.append_fault-fault.ensures in
+    omega (arith, room_left here c.if-fault-ne0.false)
 
 pub overflow_add-offset-2 : goal.overflow_add-offset-2
-overflow_add-offset-2 c = let f = c in omega (arith, room_left (here f.before) f.if1.false)
+overflow_add-offset-2 c =
+    let a = c.args in
+    let here : Told a.buf.now a.self (Unlink (record { time = a.time; child = a.child; parent = a.parent; name = a.name.now })) (length a.name.now) c.append_fault-fault.result
+    = told a.buf.now a.self (Unlink (record { time = a.time; child = a.child; parent = a.parent; name = a.name.now })) (c.unlink_fault-asked.ensures.fault, c.unlink_fault-asked.ensures.sized) refl c.append_fault-fault.ensures in
+    omega (arith, room_left here c.if-fault-ne0.false)
 
 pub mark_after-requires : goal.mark_after-requires
-mark_after-requires c = let f = c in counted (here f.before) f.if1.false
+mark_after-requires c =
+    let a = c.args in
+    let here : Told a.buf.now a.self (Unlink (record { time = a.time; child = a.child; parent = a.parent; name = a.name.now })) (length a.name.now) c.append_fault-fault.result
+    = told a.buf.now a.self (Unlink (record { time = a.time; child = a.child; parent = a.parent; name = a.name.now })) (c.unlink_fault-asked.ensures.fault, c.unlink_fault-asked.ensures.sized) refl c.append_fault-fault.ensures in
+    counted here c.if-fault-ne0.false
 
 pub returns : goal.returns
 returns c =
-    let here : let a = c.args in
-    Told a.buf.now a.self (Unlink (record { time = a.time; child = a.child; parent = a.parent; name = a.name.now })) (length a.name.now) c.append_fault-fault.result = let a = c.args in
-    told a.buf.now a.self (Unlink (record { time = a.time; child = a.child; parent = a.parent; name = a.name.now }))
-    c.unlink_fault-asked.ensures refl c.append_fault-fault.ensures in
-    accepted here c.if-fault-ne0.false c.write_unlink.ensures c.mark_after.ensures
+    let a = c.args in
+    let here : Told a.buf.now a.self (Unlink (record { time = a.time; child = a.child; parent = a.parent; name = a.name.now })) (length a.name.now) c.append_fault-fault.result
+    = told a.buf.now a.self (Unlink (record { time = a.time; child = a.child; parent = a.parent; name = a.name.now })) (c.unlink_fault-asked.ensures.fault, c.unlink_fault-asked.ensures.sized) refl c.append_fault-fault.ensures in
+    let r = accepted here c.if-fault-ne0.false c.write_unlink.ensures c.mark_after.ensures in
+    record { answer = r.0; buffer = r.1.0; sized = r.1.1 }

@@ -9,35 +9,49 @@ use Rattle.volume.proofs.Bookmark.append_xattr.Goals as goal
 
 pub returns-then-fault-ne0 : goal.returns-then-fault-ne0
 returns-then-fault-ne0 c =
-    let here : let a = c.args in
-    Told a.buf.now a.self (Xattr (record { time = a.time; inode = a.inode; name = a.name.now; value = a.value.now })) (length a.name.now + length a.value.now) c.append_fault-fault.result = let a = c.args in
-    told a.buf.now a.self (Xattr (record { time = a.time; inode = a.inode; name = a.name.now; value = a.value.now }))
-    c.xattr_fault-asked.ensures (sym (length-append a.name.now a.value.now)) c.append_fault-fault.ensures in
-    refused here c.name_refusal.ensures c.if-fault-ne0.true
+    let a = c.args in
+    let here : Told a.buf.now a.self (Xattr (record { time = a.time; inode = a.inode; name = a.name.now; value = a.value.now })) (length a.name.now + length a.value.now) c.append_fault-fault.result
+    = told a.buf.now a.self (Xattr (record { time = a.time; inode = a.inode; name = a.name.now; value = a.value.now })) (c.xattr_fault-asked.ensures.fault, c.xattr_fault-asked.ensures.sized) (sym (length-append a.name.now a.value.now)) c.append_fault-fault.ensures in
+    let r = refused here c.name_refusal.ensures c.if-fault-ne0.true in
+    record { answer = r.0; buffer = r.1.0; sized = r.1.1 }
 
 pub write_xattr-requires : goal.write_xattr-requires
 write_xattr-requires c =
-    let here : let a = c.args in
-    Told a.buf.now a.self (Xattr (record { time = a.time; inode = a.inode; name = a.name.now; value = a.value.now })) (length a.name.now + length a.value.now) c.append_fault-fault.result = let a = c.args in
-    told a.buf.now a.self (Xattr (record { time = a.time; inode = a.inode; name = a.name.now; value = a.value.now }))
-    c.xattr_fault-asked.ensures (sym (length-append a.name.now a.value.now)) c.append_fault-fault.ensures in
-    let t = here in
-    let lengths = (keeps t c.if-fault-ne0.false).fit in
-    (omega (arith, room_left t c.if-fault-ne0.false), (lengths.1.1.0, lengths.1.1.1.0))
+    let a = c.args in
+    let here : Told a.buf.now a.self (Xattr (record { time = a.time; inode = a.inode; name = a.name.now; value = a.value.now })) (length a.name.now + length a.value.now) c.append_fault-fault.result
+    = told a.buf.now a.self (Xattr (record { time = a.time; inode = a.inode; name = a.name.now; value = a.value.now })) (c.xattr_fault-asked.ensures.fault, c.xattr_fault-asked.ensures.sized) (sym (length-append a.name.now a.value.now)) c.append_fault-fault.ensures in
+    let lengths = keeps here c.if-fault-ne0.false in
+    record {
+      value_in_bounds = omega (arith, room_left here c.if-fault-ne0.false);
+      name_len_bound = lengths.fit.1.1.0;
+      value_len_bound = lengths.fit.1.1.1.0;
+    }
 
 pub overflow_add-offset : goal.overflow_add-offset
-overflow_add-offset c = let f = c in omega (arith, room_left (here f.before) f.if1.false)
+overflow_add-offset c =
+    let a = c.args in
+    let here : Told a.buf.now a.self (Xattr (record { time = a.time; inode = a.inode; name = a.name.now; value = a.value.now })) (length a.name.now + length a.value.now) c.append_fault-fault.result
+    = told a.buf.now a.self (Xattr (record { time = a.time; inode = a.inode; name = a.name.now; value = a.value.now })) (c.xattr_fault-asked.ensures.fault, c.xattr_fault-asked.ensures.sized) (sym (length-append a.name.now a.value.now)) c.append_fault-fault.ensures in
+    omega (arith, room_left here c.if-fault-ne0.false)
 
 pub overflow_add-offset-2 : goal.overflow_add-offset-2
-overflow_add-offset-2 c = let f = c in omega (arith, room_left (here f.before) f.if1.false)
+overflow_add-offset-2 c =
+    let a = c.args in
+    let here : Told a.buf.now a.self (Xattr (record { time = a.time; inode = a.inode; name = a.name.now; value = a.value.now })) (length a.name.now + length a.value.now) c.append_fault-fault.result
+    = told a.buf.now a.self (Xattr (record { time = a.time; inode = a.inode; name = a.name.now; value = a.value.now })) (c.xattr_fault-asked.ensures.fault, c.xattr_fault-asked.ensures.sized) (sym (length-append a.name.now a.value.now)) c.append_fault-fault.ensures in
+    omega (arith, room_left here c.if-fault-ne0.false)
 
 pub mark_after-requires : goal.mark_after-requires
-mark_after-requires c = let f = c in counted (here f.before) f.if1.false
+mark_after-requires c =
+    let a = c.args in
+    let here : Told a.buf.now a.self (Xattr (record { time = a.time; inode = a.inode; name = a.name.now; value = a.value.now })) (length a.name.now + length a.value.now) c.append_fault-fault.result
+    = told a.buf.now a.self (Xattr (record { time = a.time; inode = a.inode; name = a.name.now; value = a.value.now })) (c.xattr_fault-asked.ensures.fault, c.xattr_fault-asked.ensures.sized) (sym (length-append a.name.now a.value.now)) c.append_fault-fault.ensures in
+    counted here c.if-fault-ne0.false
 
 pub returns : goal.returns
 returns c =
-    let here : let a = c.args in
-    Told a.buf.now a.self (Xattr (record { time = a.time; inode = a.inode; name = a.name.now; value = a.value.now })) (length a.name.now + length a.value.now) c.append_fault-fault.result = let a = c.args in
-    told a.buf.now a.self (Xattr (record { time = a.time; inode = a.inode; name = a.name.now; value = a.value.now }))
-    c.xattr_fault-asked.ensures (sym (length-append a.name.now a.value.now)) c.append_fault-fault.ensures in
-    accepted here c.if-fault-ne0.false c.write_xattr.ensures c.mark_after.ensures
+    let a = c.args in
+    let here : Told a.buf.now a.self (Xattr (record { time = a.time; inode = a.inode; name = a.name.now; value = a.value.now })) (length a.name.now + length a.value.now) c.append_fault-fault.result
+    = told a.buf.now a.self (Xattr (record { time = a.time; inode = a.inode; name = a.name.now; value = a.value.now })) (c.xattr_fault-asked.ensures.fault, c.xattr_fault-asked.ensures.sized) (sym (length-append a.name.now a.value.now)) c.append_fault-fault.ensures in
+    let r = accepted here c.if-fault-ne0.false c.write_xattr.ensures c.mark_after.ensures in
+    record { answer = r.0; buffer = r.1.0; sized = r.1.1 }

@@ -1,7 +1,6 @@
 use Prim.Native.Nat.{◌-◌}
 use native.Mathlib.Omega.{arith}
 use mathlib.Core.Path.{◌≡◌, refl, sym, ap, ◌∙◌}
-use borrow.Author.Tests.{not-true, not-false}
 use Rattle.volume.specs.Reading.{read_fault}
 use Rattle.volume.specs.declared.Bookmark.{Bookmark}
 use Rattle.volume.specs.inner.Walk.{on_read}
@@ -17,7 +16,7 @@ pub returns-then-fault-ne0 : goal.returns-then-fault-ne0
 unfolding on_read
 returns-then-fault-ne0 c =
     sym (c.loop-fault.invariant ∙ walk_step _ (check_way _) _
-    (sym (refusal_read _ _ _ (sym c.is_end.ensures ∙ not-true _ c.loop-fault-test.true) (sym c.read_fault-fault.ensures) c.if-fault-ne0.true c.refusal_at.ensures)))
+    (sym (refusal_read _ _ _ (sym c.is_end.ensures ∙ c.loop-fault-test.true) (sym c.read_fault-fault.ensures) c.if-fault-ne0.true c.refusal_at.ensures)))
 
 pub loop-fault-smaller : goal.loop-fault-smaller
 loop-fault-smaller c =
@@ -30,10 +29,10 @@ loop-fault-preserved c =
     let sound : read_fault c.args.volume.now c.loop-fault.mark ≡ 0 = sym c.read_fault-fault.ensures ∙ c.if-fault-ne0.false in
     let a = c.args in
     c.loop-fault.invariant
-    ∙ walk_step _ (check_way _) _ (sym (found_read _ _ (sym c.is_end.ensures ∙ not-true _ c.loop-fault-test.true) sound))
+    ∙ walk_step _ (check_way _) _ (sym (found_read _ _ (sym c.is_end.ensures ∙ c.loop-fault-test.true) sound))
     ∙ ap (λ (m : Bookmark). check_from a.volume.now a.sequence m) (sym c.next_mark-mark.ensures)
 
 pub returns : goal.returns
 unfolding on_read
 returns c =
-    sym (c.loop-fault.invariant ∙ walk_step _ (check_way _) _ (sym (end_read _ _ (sym c.is_end.ensures ∙ not-false _ c.loop-fault-test.false))))
+    sym (c.loop-fault.invariant ∙ walk_step _ (check_way _) _ (sym (end_read _ _ (sym c.is_end.ensures ∙ c.loop-fault-test.false))))

@@ -13,7 +13,7 @@ header_fault-requires c = inl refl
 pub returns-then-header_fault-ne0 : goal.returns-then-header_fault-ne0
 returns-then-header_fault-ne0 c =
     rw (← c.header_fault.ensures, ne_eqb _ _ c.if-header_fault-ne0.true)
-    (refl, ap (λ (n : ℕ). (c.args.volume.ptr.0, n)) (omega arith))
+    record { bytes = refl; address = ap (λ (n : ℕ). (c.args.volume.ref_ptr.0, n)) (omega arith) }
 
 pub slice_bounds-result-end-2 : goal.slice_bounds-result-end-2
 slice_bounds-result-end-2 c = omega (arith, header-length _ (sym c.header_fault.ensures ∙ c.if-header_fault-ne0.false))
@@ -21,4 +21,4 @@ slice_bounds-result-end-2 c = omega (arith, header-length _ (sym c.header_fault.
 pub returns : goal.returns
 returns c =
     rw (← c.header_fault.ensures, eq-eqb _ _ c.if-header_fault-ne0.false)
-    (refl, ap (λ (n : ℕ). (c.args.volume.ptr.0, n)) (omega arith))
+    record { bytes = refl; address = ap (λ (n : ℕ). (c.args.volume.ref_ptr.0, n)) (omega arith) }

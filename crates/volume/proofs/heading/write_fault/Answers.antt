@@ -14,7 +14,7 @@ returns-then-id-ne-ID_LEN c =
       id_bytes = λ i. (c.type_inv.id i).fits;
       hash_bytes = λ i. (c.type_inv.previous i).fits;
     } in
-    (decided (search walks depth 12), sized)
+    record { fault = decided (search walks depth 12); sized = sized }
 
 pub returns-then-previous-ne-HASH_LEN : goal.returns-then-previous-ne-HASH_LEN
 unfolding write_fault
@@ -25,7 +25,7 @@ returns-then-previous-ne-HASH_LEN c =
       id_bytes = λ i. (c.type_inv.id i).fits;
       hash_bytes = λ i. (c.type_inv.previous i).fits;
     } in
-    (decided (search walks depth 12), sized)
+    record { fault = decided (search walks depth 12); sized = sized }
 
 pub returns-then-hash_wrong : goal.returns-then-hash_wrong
 unfolding write_fault
@@ -36,7 +36,7 @@ returns-then-hash_wrong c =
       id_bytes = λ i. (c.type_inv.id i).fits;
       hash_bytes = λ i. (c.type_inv.previous i).fits;
     } in
-    (decided (search walks depth 12), sized)
+    record { fault = decided (search walks depth 12); sized = sized }
 
 pub returns-then-room-lt-HEADER_LEN : goal.returns-then-room-lt-HEADER_LEN
 unfolding write_fault
@@ -47,7 +47,7 @@ returns-then-room-lt-HEADER_LEN c =
       id_bytes = λ i. (c.type_inv.id i).fits;
       hash_bytes = λ i. (c.type_inv.previous i).fits;
     } in
-    (decided (search walks depth 12), sized)
+    record { fault = decided (search walks depth 12); sized = sized }
 
 pub returns : goal.returns
 unfolding write_fault
@@ -58,4 +58,4 @@ returns c =
       id_bytes = λ i. (c.type_inv.id i).fits;
       hash_bytes = λ i. (c.type_inv.previous i).fits;
     } in
-    (decided (search walks depth 12), sized)
+    record { fault = decided (search walks depth 12); sized = sized }

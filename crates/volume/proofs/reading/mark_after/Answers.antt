@@ -12,7 +12,7 @@ pub overflow_add-number : goal.overflow_add-number
 overflow_add-number c = omega (arith, c.requires)
 
 pub returns-in-Never : goal.returns-in-Never
-returns-in-Never c = rw c.enum_told-1.given.1 (same-mark refl refl refl (omega arith))
+returns-in-Never c = rw c.in-Never.is (same-mark refl refl refl (omega arith))
 
 pub returns-in-At : goal.returns-in-At
-returns-in-At c = rw c.enum_told-in-At-1.given.1 (same-mark refl refl refl (omega arith))
+returns-in-At c = rw c.in-At.is (same-mark refl refl refl (omega arith))
