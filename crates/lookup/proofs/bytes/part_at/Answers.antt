@@ -5,5 +5,5 @@ use native.Mathlib.Nat.{add-sub_cancel_left}
 use native.Mathlib.Omega.{arith}
 use Rattle.lookup.proofs.bytes.part_at.Goals as goal
 
-pub returns : goal.returns
-returns c = (simp add-sub_cancel_left, ap (λ (n : ℕ). (c.args.volume.ptr.0, n)) (omega arith))
+pub returns-clause-bytes : goal.returns-clause-bytes
+returns-clause-bytes c = simp add-sub_cancel_left

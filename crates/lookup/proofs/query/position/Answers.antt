@@ -37,7 +37,7 @@ returns-in-Hole c =
     placed c.locate-place.result ≡ position_answer a.volume.now a.offset a.lengths.now a.position.0 = position_placed _ _ _ c.lookup_fault-fault.ensures c.if-fault-ne0.false _ _
     (rw (← c.read_u64.ensures) (leb-false _ _ (told c.is_past_end.ensures c.if-is_past_end.false)))
     c.list_of.ensures c.locate-place.ensures in
-    ap placed (sym c.enum_told-1.given.1) ∙ answered
+    ap placed (sym c.in-Hole.is) ∙ answered
 
 pub returns-in-Stored : goal.returns-in-Stored
 returns-in-Stored c =
@@ -45,4 +45,4 @@ returns-in-Stored c =
     placed c.locate-place.result ≡ position_answer a.volume.now a.offset a.lengths.now a.position.0 = position_placed _ _ _ c.lookup_fault-fault.ensures c.if-fault-ne0.false _ _
     (rw (← c.read_u64.ensures) (leb-false _ _ (told c.is_past_end.ensures c.if-is_past_end.false)))
     c.list_of.ensures c.locate-place.ensures in
-    ap placed (sym c.place-1.given.1) ∙ answered
+    ap placed (sym c.in-Stored.is) ∙ answered

@@ -2,7 +2,7 @@
 use mathlib.Core.Path.{◌≡◌, sym, ap, ◌∙◌}
 use native.Mathlib.Omega.{arith}
 use lib.ListN.{length}
-use Rattle.lookup.specs.inner.Answers.{runs_answer, runs_room}
+use Rattle.lookup.specs.inner.Answers.{runs_answer}
 use Rattle.lookup.proofs.Clear.{RegularFile, a_lookup_without_a_fault_is_clear}
 use Rattle.lookup.proofs.Answers.{numbered, runs_refused, room_kept, runs_numbered, room_filled}
 use Rattle.lookup.proofs.query.runs.Goals as goal
@@ -11,7 +11,7 @@ pub returns-then-fault-ne0 : goal.returns-then-fault-ne0
 returns-then-fault-ne0 c =
     let told = c.lookup_fault-fault.ensures in
     let n = c.if-fault-ne0.true in
-    (runs_refused _ _ _ told n c.refusal_at.ensures _ _ _, room_kept _ _ _ told n _ _ _)
+    record { answer = runs_refused _ _ _ told n c.refusal_at.ensures _ _ _; room = room_kept _ _ _ told n _ _ _ }
 
 pub overflow_add-offset : goal.overflow_add-offset
 overflow_add-offset c =
@@ -30,28 +30,26 @@ range-counted-requires c = let f =
 
 pub returns-in-Runs : goal.returns-in-Runs
 returns-in-Runs c =
-    let answered : let a = c.args in
-    (numbered c.range-counted.result
-    ≡ runs_answer a.volume.now a.offset a.lengths.now a.from.0 a.to.0 (length a.out.now))
-    × (c.range-counted.new.1.1.1.1.0 ≡ runs_room a.volume.now a.offset a.lengths.now a.from.0 a.to.0 a.out.now) = let told = c.lookup_fault-fault.ensures in
+    let a = c.args in
+    let told = c.lookup_fault-fault.ensures in
     let list = c.list_of-list.ensures in
-    let size = c.read_u64.ensures in (
-      runs_numbered _ _ _ told c.if-fault-ne0.false list size _ _ _ _ c.range-counted.ensures.0,
-      room_filled _ _ _ told c.if-fault-ne0.false list size _ _ _ _ c.range-counted.ensures.1,
-    ) in
-    let r = answered in
-    (ap numbered (sym c.counted-1.given.1) ∙ r.0, r.1)
+    let size = c.read_u64.ensures in
+    let answered : numbered c.range-counted.result ≡ runs_answer a.volume.now a.offset a.lengths.now a.from.0 a.to.0 (length a.out.now)
+    = runs_numbered _ _ _ told c.if-fault-ne0.false list size _ _ _ _ c.range-counted.ensures.answer in
+    record {
+      answer = ap numbered (sym c.in-Runs.is) ∙ answered;
+      room = room_filled _ _ _ told c.if-fault-ne0.false list size _ _ _ _ c.range-counted.ensures.room;
+    }
 
 pub returns-in-RoomTooSmall : goal.returns-in-RoomTooSmall
 returns-in-RoomTooSmall c =
-    let answered : let a = c.args in
-    (numbered c.range-counted.result
-    ≡ runs_answer a.volume.now a.offset a.lengths.now a.from.0 a.to.0 (length a.out.now))
-    × (c.range-counted.new.1.1.1.1.0 ≡ runs_room a.volume.now a.offset a.lengths.now a.from.0 a.to.0 a.out.now) = let told = c.lookup_fault-fault.ensures in
+    let a = c.args in
+    let told = c.lookup_fault-fault.ensures in
     let list = c.list_of-list.ensures in
-    let size = c.read_u64.ensures in (
-      runs_numbered _ _ _ told c.if-fault-ne0.false list size _ _ _ _ c.range-counted.ensures.0,
-      room_filled _ _ _ told c.if-fault-ne0.false list size _ _ _ _ c.range-counted.ensures.1,
-    ) in
-    let r = answered in
-    (rw c.refuse.ensures (ap numbered (sym c.enum_told-1.given.1) ∙ r.0), r.1)
+    let size = c.read_u64.ensures in
+    let answered : numbered c.range-counted.result ≡ runs_answer a.volume.now a.offset a.lengths.now a.from.0 a.to.0 (length a.out.now)
+    = runs_numbered _ _ _ told c.if-fault-ne0.false list size _ _ _ _ c.range-counted.ensures.answer in
+    record {
+      answer = rw c.refuse.ensures (ap numbered (sym c.in-RoomTooSmall.is) ∙ answered);
+      room = room_filled _ _ _ told c.if-fault-ne0.false list size _ _ _ _ c.range-counted.ensures.room;
+    }
