@@ -10,8 +10,11 @@ mod second;
 mod steps;
 mod third;
 
-fn main() {
-    let of_first = first::make(&mut [0u8; first::LEN]);
-    let of_second = second::make(&mut [0u8; second::LEN], &of_first);
-    third::make(&mut [0u8; third::LEN], &of_second);
+use std::io;
+
+fn main(rt: HostRuntime) -> io::Result<()> {
+    let of_first = first::make(&rt, &mut [0u8; first::LEN])?;
+    let of_second = second::make(&rt, &mut [0u8; second::LEN], &of_first)?;
+    third::make(&rt, &mut [0u8; third::LEN], &of_second)?;
+    Ok(())
 }

@@ -2,6 +2,7 @@
 ghost use Rattle.std.specs.Prelude.{◌≤◌};
 
 use printing::{print_pair, print_refusal, print_word};
+use std::io;
 use volume::{Bookmark, LastTime, WriteAnswer};
 
 pub const REGULAR: u16 = 33188;
@@ -22,31 +23,36 @@ pub const REPEATED: u8 = 82;
 
 // Internal: the bookmark for the next append. No call here is meant to be refused; one that is says so, and leaves a gap that
 // the volume check finds.
-pub fn onward(mark: Bookmark, answer: WriteAnswer) -> Bookmark {
+pub fn onward(rt: &impl Print, mark: Bookmark, answer: WriteAnswer) -> io::Result<Bookmark> {
     match answer {
-        WriteAnswer::Next(next) => next,
+        WriteAnswer::Next(next) => Ok(next),
         WriteAnswer::Refused(refusal) => {
-            print_refusal(refusal);
-            print_pair(b" in writing at ", mark.offset as u64);
-            print_word(b"\n");
-            mark
+            print_refusal(rt, refusal)?;
+            print_pair(rt, b" in writing at ", mark.offset as u64)?;
+            print_word(rt, b"\n")?;
+            Ok(mark)
         }
     }
 }
 
 // Internal: the digest of a volume, which the header of the next one has. A volume here has a few hundred bytes and is not meant
 // to be refused; if it is, the program says so, and the next volume has zeros, which name no volume.
-pub fn digest(volume: &[u8]) -> [u8; 32] {
+pub fn digest(rt: &impl Print, volume: &[u8]) -> io::Result<[u8; 32]> {
     let finished = sha256::sha256(volume);
     if finished.refusal != 0 {
-        print_pair(b"refused ", finished.refusal);
-        print_word(b" in working out a digest\n");
+        print_pair(rt, b"refused ", finished.refusal)?;
+        print_word(rt, b" in working out a digest\n")?;
     }
-    finished.digest
+    Ok(finished.digest)
 }
 
 // Internal: begins a volume. `previous` is the digest of the volume before. Volume 0 has none before it, and must have zeros.
-pub fn begin(buf: &mut [u8], sequence: u64, previous: &[u8]) -> Bookmark {
+pub fn begin(
+    rt: &impl Print,
+    buf: &mut [u8],
+    sequence: u64,
+    previous: &[u8],
+) -> io::Result<Bookmark> {
     let nowhere = Bookmark {
         offset: 0,
         due: false,
@@ -54,11 +60,12 @@ pub fn begin(buf: &mut [u8], sequence: u64, previous: &[u8]) -> Bookmark {
         number: 0,
     };
     let answer = volume::heading::write_header(buf, b"gauge at a river", sequence, previous);
-    onward(nowhere, answer)
+    onward(rt, nowhere, answer)
 }
 
 // Internal: appends an inode, with the same owners and times for each.
 pub fn inode(
+    rt: &impl Print,
     mark: Bookmark,
     buf: &mut [u8],
     number: u64,
@@ -66,9 +73,9 @@ pub fn inode(
     mode: u16,
     size: u64,
     rest: &[u8],
-) -> Bookmark {
+) -> io::Result<Bookmark> {
     let answer = mark.append_inode(buf, number, time, mode, 1, 2, 3, 4, 5, 6, size, rest);
-    onward(mark, answer)
+    onward(rt, mark, answer)
 }
 
 // Internal: puts an extent into a list at `at`, its eight fields in the order of the layout. The bound, where the last of four

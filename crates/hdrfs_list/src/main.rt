@@ -6,8 +6,8 @@ ghost use Rattle.io.specs.Counts.{IsPrefixLen};
 ghost use Rattle.listing.specs.Listing.{list_limit};
 ghost use Rattle.listing.specs.inner.Text.{listing};
 
-use libc::{STDIN_FILENO, STDOUT_FILENO};
 use listing::ListAnswer;
+use std::io::{self, Write};
 
 // Writes the listing into a room that is long enough for every text, and answers how long the text is.
 fn write_listing(volume: &[u8], room: &mut [u8]) -> usize
@@ -22,11 +22,11 @@ fn write_listing(volume: &[u8], room: &mut [u8]) -> usize
     }
 }
 
-fn main() {
+fn main(rt: HostRuntime) -> io::Result<()> {
     // One byte more than the longest volume that is listed, so that a longer one is told from it.
     let mut volume = [0u8; 65537];
-    let len = io::read_full(STDIN_FILENO, &mut volume);
+    let len = printing::read_full(&mut rt.reader(), &mut volume)?;
     let mut text = [0u8; 65536];
     let written = write_listing(&volume[..len], &mut text);
-    io::write_all(STDOUT_FILENO, &text[..written]);
+    io::writer(&rt).write_all(&text[..written])
 }

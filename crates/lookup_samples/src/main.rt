@@ -5,6 +5,8 @@
 use format::{Logical, Physical};
 use lookup::{PositionAnswer, RunsAnswer};
 use printing::{load, print_number, print_pair, print_refusal, print_word};
+use std::io;
+use std::rt::Files;
 
 // Where the inode blocks of gauge.vol stand: files A, A with post 2, and B of the rules, a folder, two files with an extent
 // that is not there, one that keeps nothing, and one of 2^63 copies of a byte.
@@ -24,218 +26,269 @@ const NOTHING_AT: usize = 839;
 
 const COPIES_AT: usize = 971;
 
-fn print_place(answer: PositionAnswer) {
+fn print_place(rt: &impl Print, answer: PositionAnswer) -> io::Result<()> {
     match answer {
-        PositionAnswer::Hole => print_word(b"hole"),
-        PositionAnswer::PastEnd => print_word(b"past end"),
+        PositionAnswer::Hole => print_word(rt, b"hole"),
+        PositionAnswer::PastEnd => print_word(rt, b"past end"),
         PositionAnswer::Stored(place) => {
-            print_pair(b"volume ", place.volume);
-            print_pair(b" offset ", place.offset.0);
+            print_pair(rt, b"volume ", place.volume)?;
+            print_pair(rt, b" offset ", place.offset.0)
         }
-        PositionAnswer::Refused(refusal) => print_refusal(refusal),
+        PositionAnswer::Refused(refusal) => print_refusal(rt, refusal),
     }
 }
 
-fn print_count(answer: RunsAnswer) {
+fn print_count(rt: &impl Print, answer: RunsAnswer) -> io::Result<()> {
     match answer {
         RunsAnswer::Runs(count) => {
-            print_number(count);
-            print_word(b" runs");
+            print_number(rt, count)?;
+            print_word(rt, b" runs")
         }
-        RunsAnswer::Refused(refusal) => print_refusal(refusal),
+        RunsAnswer::Refused(refusal) => print_refusal(rt, refusal),
     }
 }
 
-fn print_numbers(numbers: &[u64]) {
-    let mut i = 0;
-    while i < numbers.len() {
-        print_pair(b" ", numbers[i]);
-        i += 1;
+fn print_numbers(rt: &impl Print, numbers: &[u64]) -> io::Result<()> {
+    for number in numbers {
+        print_pair(rt, b" ", *number)?;
     }
+    Ok(())
 }
 
-fn position_row(volume: &[u8], offset: usize, lengths: &[u8], position: u64) {
-    print_pair(b"inode at ", offset as u64);
-    print_pair(b", position ", position);
-    print_word(b": ");
-    print_place(lookup::query::position(volume, offset, lengths, Logical(position)));
-    print_word(b"\n");
+fn position_row(
+    rt: &impl Print,
+    volume: &[u8],
+    offset: usize,
+    lengths: &[u8],
+    position: u64,
+) -> io::Result<()> {
+    print_pair(rt, b"inode at ", offset as u64)?;
+    print_pair(rt, b", position ", position)?;
+    print_word(rt, b": ")?;
+    print_place(
+        rt,
+        lookup::query::position(volume, offset, lengths, Logical(position)),
+    )?;
+    print_word(rt, b"\n")
 }
 
 // The lent list holds nines before the call and is printed whole after it, so that a number which was not to change shows.
-fn runs_row(volume: &[u8], offset: usize, lengths: &[u8], from: u64, to: u64, out: &mut [u64]) {
-    print_pair(b"inode at ", offset as u64);
-    print_pair(b", ", from);
-    print_pair(b" to ", to);
-    print_pair(b", room ", out.len() as u64);
-    print_word(b": ");
-    print_count(lookup::query::runs(volume, offset, lengths, Logical(from), Logical(to), out));
-    print_numbers(out);
-    print_word(b"\n");
+fn runs_row(
+    rt: &impl Print,
+    volume: &[u8],
+    offset: usize,
+    lengths: &[u8],
+    from: u64,
+    to: u64,
+    out: &mut [u64],
+) -> io::Result<()> {
+    print_pair(rt, b"inode at ", offset as u64)?;
+    print_pair(rt, b", ", from)?;
+    print_pair(rt, b" to ", to)?;
+    print_pair(rt, b", room ", out.len() as u64)?;
+    print_word(rt, b": ")?;
+    print_count(
+        rt,
+        lookup::query::runs(volume, offset, lengths, Logical(from), Logical(to), out),
+    )?;
+    print_numbers(rt, out)?;
+    print_word(rt, b"\n")
 }
 
-fn fetch_row<'a>(first: &'a [u8], second: &'a [u8], number: u64, offset: u64, len: u64) {
-    print_pair(b"fetch ", len);
-    print_pair(b" at ", offset);
-    print_pair(b" of volume ", number);
+fn fetch_row<'a>(
+    rt: &impl Print,
+    first: &'a [u8],
+    second: &'a [u8],
+    number: u64,
+    offset: u64,
+    len: u64,
+) -> io::Result<()> {
+    print_pair(rt, b"fetch ", len)?;
+    print_pair(rt, b" at ", offset)?;
+    print_pair(rt, b" of volume ", number)?;
     print_pair(
+        rt,
         b": ",
         lookup::bytes::fetch_refusal(first, second, number, Physical(offset), len),
-    );
-    print_word(b" [");
-    print_word(lookup::bytes::fetch(first, second, number, Physical(offset), len));
-    print_word(b"]\n");
+    )?;
+    print_word(rt, b" [")?;
+    print_word(
+        rt,
+        lookup::bytes::fetch(first, second, number, Physical(offset), len),
+    )?;
+    print_word(rt, b"]\n")
 }
 
 // Stored bytes, holes, and positions past the end.
-fn stored_and_holes(volume: &[u8]) {
+fn stored_and_holes(rt: &impl Print, volume: &[u8]) -> io::Result<()> {
     let lengths = [104u8, 0, 0, 0, 0, 0, 0, 0];
-    position_row(volume, A_AT, &lengths, 0);
-    position_row(volume, A_AT, &lengths, 2);
-    position_row(volume, A_AT, &lengths, 3);
-    position_row(volume, POST_AT, &lengths, 0);
-    position_row(volume, POST_AT, &lengths, 1);
+    position_row(rt, volume, A_AT, &lengths, 0)?;
+    position_row(rt, volume, A_AT, &lengths, 2)?;
+    position_row(rt, volume, A_AT, &lengths, 3)?;
+    position_row(rt, volume, POST_AT, &lengths, 0)?;
+    position_row(rt, volume, POST_AT, &lengths, 1)
 }
 
 // A block of three bytes that is repeated three times.
-fn repeated_block(volume: &[u8]) {
+fn repeated_block(rt: &impl Print, volume: &[u8]) -> io::Result<()> {
     let lengths = [104u8, 0, 0, 0, 0, 0, 0, 0];
-    position_row(volume, B_AT, &lengths, 3);
-    position_row(volume, B_AT, &lengths, 4);
-    position_row(volume, B_AT, &lengths, 6);
-    position_row(volume, B_AT, &lengths, 10);
-    position_row(volume, B_AT, &lengths, 11);
-    position_row(volume, B_AT, &lengths, 18446744073709551615);
+    position_row(rt, volume, B_AT, &lengths, 3)?;
+    position_row(rt, volume, B_AT, &lengths, 4)?;
+    position_row(rt, volume, B_AT, &lengths, 6)?;
+    position_row(rt, volume, B_AT, &lengths, 10)?;
+    position_row(rt, volume, B_AT, &lengths, 11)?;
+    position_row(rt, volume, B_AT, &lengths, 18446744073709551615)
 }
 
 // What is refused, whatever position is asked.
-fn refused(volume: &[u8]) {
+fn refused(rt: &impl Print, volume: &[u8]) -> io::Result<()> {
     let lengths = [104u8, 0, 0, 0, 0, 0, 0, 0];
-    position_row(volume, FOLDER_AT, &lengths, 0);
-    position_row(volume, 80, &lengths, 0);
-    position_row(volume, BEYOND_AT, &lengths, 0);
-    position_row(volume, BEYOND_AT, &lengths, 9);
-    position_row(volume, OTHER_AT, &lengths, 0);
+    position_row(rt, volume, FOLDER_AT, &lengths, 0)?;
+    position_row(rt, volume, 80, &lengths, 0)?;
+    position_row(rt, volume, BEYOND_AT, &lengths, 0)?;
+    position_row(rt, volume, BEYOND_AT, &lengths, 9)?;
+    position_row(rt, volume, OTHER_AT, &lengths, 0)
 }
 
 // Kept lengths of 0 name no volume, very many copies, and refusals of the place and of the lengths.
-fn at_the_edges(volume: &[u8]) {
+fn at_the_edges(rt: &impl Print, volume: &[u8]) -> io::Result<()> {
     let lengths = [104u8, 0, 0, 0, 0, 0, 0, 0];
-    position_row(volume, NOTHING_AT, &lengths, 2);
-    position_row(volume, COPIES_AT, &lengths, 9223372036854775807);
-    position_row(volume, COPIES_AT, &lengths, 9223372036854775808);
-    position_row(volume, volume.len(), &lengths, 0);
-    position_row(volume, 79, &lengths, 0);
-    position_row(volume, A_AT, b"", 0);
-    position_row(volume, A_AT, b"h\x00\x00\x00\x00\x00\x00", 0);
-    position_row(volume, FOLDER_AT, &[0u8; 9], 0);
+    position_row(rt, volume, NOTHING_AT, &lengths, 2)?;
+    position_row(rt, volume, COPIES_AT, &lengths, 9223372036854775807)?;
+    position_row(rt, volume, COPIES_AT, &lengths, 9223372036854775808)?;
+    position_row(rt, volume, volume.len(), &lengths, 0)?;
+    position_row(rt, volume, 79, &lengths, 0)?;
+    position_row(rt, volume, A_AT, b"", 0)?;
+    position_row(rt, volume, A_AT, b"h\x00\x00\x00\x00\x00\x00", 0)?;
+    position_row(rt, volume, FOLDER_AT, &[0u8; 9], 0)?;
+    Ok(())
 }
 
 // Ranges with room enough, exactly enough and too little.
-fn ranges(volume: &[u8]) {
+fn ranges(rt: &impl Print, volume: &[u8]) -> io::Result<()> {
     let lengths = [104u8, 0, 0, 0, 0, 0, 0, 0];
-    runs_row(volume, A_AT, &lengths, 0, 3, &mut [9u64; 6]);
-    runs_row(volume, POST_AT, &lengths, 0, 3, &mut [9u64; 11]);
-    runs_row(volume, B_AT, &lengths, 0, 14, &mut [9u64; 25]);
-    runs_row(volume, B_AT, &lengths, 0, 14, &mut [9u64; 24]);
-    runs_row(volume, B_AT, &lengths, 0, 14, &mut [9u64; 26]);
-    runs_row(volume, B_AT, &lengths, 5, 10, &mut [9u64; 16]);
+    runs_row(rt, volume, A_AT, &lengths, 0, 3, &mut [9u64; 6])?;
+    runs_row(rt, volume, POST_AT, &lengths, 0, 3, &mut [9u64; 11])?;
+    runs_row(rt, volume, B_AT, &lengths, 0, 14, &mut [9u64; 25])?;
+    runs_row(rt, volume, B_AT, &lengths, 0, 14, &mut [9u64; 24])?;
+    runs_row(rt, volume, B_AT, &lengths, 0, 14, &mut [9u64; 26])?;
+    runs_row(rt, volume, B_AT, &lengths, 5, 10, &mut [9u64; 16])?;
     runs_row(
+        rt,
         volume,
         B_AT,
         &lengths,
         13,
         18446744073709551615,
         &mut [9u64; 5],
-    );
+    )?;
+    Ok(())
 }
 
 // Empty ranges, a file of holes, very many copies, and refusals that come before an empty range.
-fn ranges_at_the_edges(volume: &[u8]) {
+fn ranges_at_the_edges(rt: &impl Print, volume: &[u8]) -> io::Result<()> {
     let lengths = [104u8, 0, 0, 0, 0, 0, 0, 0];
-    runs_row(volume, B_AT, &lengths, 14, 20, &mut [9u64; 1]);
-    runs_row(volume, B_AT, &lengths, 7, 7, &mut [9u64; 1]);
-    runs_row(volume, B_AT, &lengths, 9, 4, &mut [9u64; 1]);
-    runs_row(volume, NOTHING_AT, &lengths, 0, 3, &mut [9u64; 5]);
+    runs_row(rt, volume, B_AT, &lengths, 14, 20, &mut [9u64; 1])?;
+    runs_row(rt, volume, B_AT, &lengths, 7, 7, &mut [9u64; 1])?;
+    runs_row(rt, volume, B_AT, &lengths, 9, 4, &mut [9u64; 1])?;
+    runs_row(rt, volume, NOTHING_AT, &lengths, 0, 3, &mut [9u64; 5])?;
     runs_row(
+        rt,
         volume,
         COPIES_AT,
         &lengths,
         0,
         18446744073709551615,
         &mut [9u64; 30],
-    );
-    runs_row(volume, COPIES_AT, &lengths, 5, 8, &mut [9u64; 15]);
-    runs_row(volume, BEYOND_AT, &lengths, 9, 9, &mut [9u64; 3]);
-    runs_row(volume, FOLDER_AT, &lengths, 0, 0, &mut [9u64; 0]);
+    )?;
+    runs_row(rt, volume, COPIES_AT, &lengths, 5, 8, &mut [9u64; 15])?;
+    runs_row(rt, volume, BEYOND_AT, &lengths, 9, 9, &mut [9u64; 3])?;
+    runs_row(rt, volume, FOLDER_AT, &lengths, 0, 0, &mut [9u64; 0])?;
+    Ok(())
 }
 
 // Stored bytes of one of two volumes, the first if both have the number, and what is refused.
-fn fetches<'a>(gauge: &'a [u8], later: &'a [u8]) {
-    fetch_row(gauge, later, 0, 97, 3);
-    fetch_row(gauge, later, 1, 110, 3);
-    fetch_row(later, gauge, 0, 97, 3);
-    fetch_row(gauge, later, 2, 97, 3);
-    fetch_row(gauge, later, 0, 1103, 0);
-    fetch_row(gauge, later, 0, 1103, 1);
-    fetch_row(gauge, later, 0, 18446744073709551615, 18446744073709551615);
+fn fetches<'a>(rt: &impl Print, gauge: &'a [u8], later: &'a [u8]) -> io::Result<()> {
+    fetch_row(rt, gauge, later, 0, 97, 3)?;
+    fetch_row(rt, gauge, later, 1, 110, 3)?;
+    fetch_row(rt, later, gauge, 0, 97, 3)?;
+    fetch_row(rt, gauge, later, 2, 97, 3)?;
+    fetch_row(rt, gauge, later, 0, 1103, 0)?;
+    fetch_row(rt, gauge, later, 0, 1103, 1)?;
+    fetch_row(
+        rt,
+        gauge,
+        later,
+        0,
+        18446744073709551615,
+        18446744073709551615,
+    )
 }
 
 // Both headers are checked first, the first one before the second.
-fn fetches_refused<'a>(gauge: &'a [u8], shorter: &'a [u8], damaged: &'a [u8]) {
-    fetch_row(gauge, shorter, 0, 1000, 0);
-    fetch_row(shorter, gauge, 0, 1000, 0);
-    fetch_row(gauge, damaged, 0, 97, 3);
-    fetch_row(b"", damaged, 0, 97, 3);
+fn fetches_refused<'a>(
+    rt: &impl Print,
+    gauge: &'a [u8],
+    shorter: &'a [u8],
+    damaged: &'a [u8],
+) -> io::Result<()> {
+    fetch_row(rt, gauge, shorter, 0, 1000, 0)?;
+    fetch_row(rt, shorter, gauge, 0, 1000, 0)?;
+    fetch_row(rt, gauge, damaged, 0, 97, 3)?;
+    fetch_row(rt, b"", damaged, 0, 97, 3)
 }
 
 // A position and a range of what stands first in a volume.
-fn both_lookups(name: &[u8], lengths: &[u8]) {
+fn both_lookups(rt: &(impl Print + Eprint + Files), name: &str, lengths: &[u8]) -> io::Result<()> {
     let mut buf = [0u8; 256];
-    let n = load(name, &mut buf);
+    let n = load(rt, name, &mut buf)?;
     let volume = &buf[..n];
-    print_word(name);
-    print_pair(b", ", lengths.len() as u64);
-    print_word(b" bytes of lengths:\n");
-    position_row(volume, 80, lengths, 0);
-    runs_row(volume, 80, lengths, 0, 3, &mut [9u64; 3]);
+    print_word(rt, name.as_bytes())?;
+    print_pair(rt, b", ", lengths.len() as u64)?;
+    print_word(rt, b" bytes of lengths:\n")?;
+    position_row(rt, volume, 80, lengths, 0)?;
+    runs_row(rt, volume, 80, lengths, 0, 3, &mut [9u64; 3])?;
+    Ok(())
 }
 
 // Which text of the block is the first that is bad, and where. The lengths come before that and the kind of the block after it.
-fn bad_texts() {
+fn bad_texts(rt: &(impl Print + Eprint + Files)) -> io::Result<()> {
     let lengths = [104u8, 0, 0, 0, 0, 0, 0, 0];
-    both_lookups(b"link_bad.vol", &lengths);
-    both_lookups(b"link_bad.vol", &[0u8; 9]);
-    both_lookups(b"target_bad.vol", &lengths);
-    both_lookups(b"new_path_bad.vol", &lengths);
+    both_lookups(rt, "link_bad.vol", &lengths)?;
+    both_lookups(rt, "link_bad.vol", &[0u8; 9])?;
+    both_lookups(rt, "target_bad.vol", &lengths)?;
+    both_lookups(rt, "new_path_bad.vol", &lengths)?;
+    Ok(())
 }
 
 // Bytes that are no text, and refusals before that of a text: a wrong checksum, and a table, which no lookup is made at.
-fn no_bad_texts() {
+fn no_bad_texts(rt: &(impl Print + Eprint + Files)) -> io::Result<()> {
     let lengths = [104u8, 0, 0, 0, 0, 0, 0, 0];
-    both_lookups(b"xattr_value_not_text.vol", &lengths);
-    both_lookups(b"folder_with_byte_ff.vol", &lengths);
-    both_lookups(b"link_bad_with_wrong_sum.vol", &lengths);
-    both_lookups(b"two_names_bad.vol", &lengths);
+    both_lookups(rt, "xattr_value_not_text.vol", &lengths)?;
+    both_lookups(rt, "folder_with_byte_ff.vol", &lengths)?;
+    both_lookups(rt, "link_bad_with_wrong_sum.vol", &lengths)?;
+    both_lookups(rt, "two_names_bad.vol", &lengths)?;
+    Ok(())
 }
 
-fn main() {
+fn main(rt: HostRuntime) -> io::Result<()> {
     let mut first = [0u8; 2048];
-    let n = load(b"gauge.vol", &mut first);
+    let n = load(&rt, "gauge.vol", &mut first)?;
     let mut second = [0u8; 256];
-    let m = load(b"later.vol", &mut second);
+    let m = load(&rt, "later.vol", &mut second)?;
     let mut third = [0u8; 256];
-    let k = load(b"v.vol", &mut third);
+    let k = load(&rt, "v.vol", &mut third)?;
     let mut fourth = [0u8; 256];
-    let l = load(b"wrong_magic.vol", &mut fourth);
-    stored_and_holes(&first[..n]);
-    repeated_block(&first[..n]);
-    refused(&first[..n]);
-    at_the_edges(&first[..n]);
-    ranges(&first[..n]);
-    ranges_at_the_edges(&first[..n]);
-    fetches(&first[..n], &second[..m]);
-    fetches_refused(&first[..n], &third[..k], &fourth[..l]);
-    bad_texts();
-    no_bad_texts();
+    let l = load(&rt, "wrong_magic.vol", &mut fourth)?;
+    stored_and_holes(&rt, &first[..n])?;
+    repeated_block(&rt, &first[..n])?;
+    refused(&rt, &first[..n])?;
+    at_the_edges(&rt, &first[..n])?;
+    ranges(&rt, &first[..n])?;
+    ranges_at_the_edges(&rt, &first[..n])?;
+    fetches(&rt, &first[..n], &second[..m])?;
+    fetches_refused(&rt, &first[..n], &third[..k], &fourth[..l])?;
+    bad_texts(&rt)?;
+    no_bad_texts(&rt)?;
+    Ok(())
 }

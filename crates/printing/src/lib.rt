@@ -1,50 +1,70 @@
 // What the sample programs share: words, numbers, refusals, bookmarks, appends and readings on standard output, and files read
-// whole.
+// whole. A write or a read that fails is handed on as an error.
 #![tactic(auto)]
 
 pub mod bookmarks;
 
-ghost use Rattle.io.specs.Counts.{IsPrefixLen};
+ghost use Rattle.std.specs.Io.{ReadsAtMost};
 
-use libc::STDOUT_FILENO;
 use refusal::{NOT_TEXT, Refusal};
+use std::fs;
+use std::io::{self, Read, Write};
+use std::rt::Files;
 
 // Internal: prints a word.
-pub fn print_word(word: &[u8]) {
-    io::write_all(STDOUT_FILENO, word);
+pub fn print_word(rt: &impl Print, word: &[u8]) -> io::Result<()> {
+    io::writer(rt).write_all(word)
 }
 
 // Internal: prints a number in decimal.
-pub fn print_number(number: u64) {
-    io::print_decimal(STDOUT_FILENO, number);
+pub fn print_number(rt: &impl Print, number: u64) -> io::Result<()> {
+    print!(rt; "{number}")
 }
 
 // Internal: prints a word and a number after it.
-pub fn print_pair(word: &[u8], number: u64) {
-    print_word(word);
-    print_number(number);
+pub fn print_pair(rt: &impl Print, word: &[u8], number: u64) -> io::Result<()> {
+    print_word(rt, word)?;
+    print_number(rt, number)
 }
 
 // Internal: prints a refusal: its number, and which text is bad and where, if it is 10. At another number both have to be 0,
 // and are printed if they are not, so that what is compared shows it.
-pub fn print_refusal(refusal: Refusal) {
-    print_pair(b"refused ", refusal.number);
+pub fn print_refusal(rt: &impl Print, refusal: Refusal) -> io::Result<()> {
+    print_pair(rt, b"refused ", refusal.number)?;
     if refusal.number == NOT_TEXT || refusal.text != 0 || refusal.start != 0 {
-        print_pair(b" text ", refusal.text);
-        print_pair(b" start ", refusal.start);
+        print_pair(rt, b" text ", refusal.text)?;
+        print_pair(rt, b" start ", refusal.start)?;
     }
+    Ok(())
+}
+
+// Internal: reads until the buffer is full or the input ends, and answers how many bytes came.
+pub fn read_full<R: Read>(reader: &mut R, buf: &mut [u8]) -> io::Result<usize>
+    ensures { ReadsAtMost result buf.new }
+{
+    let mut done: usize = 0;
+    for _ in 0..buf.len() {
+        let n = reader.read(&mut buf[done..])?;
+        if n == 0 {
+            break;
+        }
+        done += n;
+    }
+    Ok(done)
 }
 
 // Internal: reads a file into the buffer, and answers how many bytes it has; a file that can't be opened has none.
-pub fn load(name: &[u8], buf: &mut [u8]) -> usize
-    ensures { IsPrefixLen result buf.new }
+pub fn load<R: Files + Eprint>(rt: &R, name: &str, buf: &mut [u8]) -> io::Result<usize>
+    ensures { ReadsAtMost result buf.new }
 {
-    let fd = os::open_read(name);
-    if fd < 0 {
-        os::fail(name);
-        return 0;
+    match fs::open(rt, name) {
+        Ok(file) => {
+            let mut file = file;
+            read_full(&mut file, buf)
+        }
+        Err(error) => {
+            eprintln!(rt; "{name}: {error}")?;
+            Ok(0)
+        }
     }
-    let n = io::read_full(fd, buf);
-    libc::close(fd);
-    n
 }

@@ -8,17 +8,20 @@ mod listings;
 mod sums;
 mod volumes;
 
-fn main() {
-    sums::all();
-    characters::well_formed();
-    characters::at_the_edges();
-    characters::too_long();
-    characters::surrogates_and_above();
-    characters::cut_and_stray();
-    listings::too_long();
-    volumes::all();
-    listings::times();
-    listings::not_text();
-    bookmarks::all();
-    bad_texts::all();
+use std::io;
+
+fn main(rt: HostRuntime) -> io::Result<()> {
+    sums::all(&rt)?;
+    characters::well_formed(&rt)?;
+    characters::at_the_edges(&rt)?;
+    characters::too_long(&rt)?;
+    characters::surrogates_and_above(&rt)?;
+    characters::cut_and_stray(&rt)?;
+    listings::too_long(&rt)?;
+    volumes::all(&rt)?;
+    listings::times(&rt)?;
+    listings::not_text(&rt)?;
+    bookmarks::all(&rt)?;
+    bad_texts::all(&rt)?;
+    Ok(())
 }

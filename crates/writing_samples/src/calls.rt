@@ -2,6 +2,8 @@
 // by other means.
 use printing::bookmarks::{onward, print_mark};
 use printing::{load, print_word};
+use std::io;
+use std::rt::Files;
 use volume::{Bookmark, LastTime, WriteAnswer};
 
 pub const REGULAR: u16 = 33188;
@@ -11,11 +13,16 @@ pub const SYMBOLIC_LINK: u16 = 41471;
 pub const FOLDER: u16 = 16877;
 
 // Prints the answer of a call behind its bookmark, and gives the bookmark for the next one.
-pub fn at(call: &[u8], mark: Bookmark, answer: WriteAnswer) -> Bookmark {
-    print_word(b"at");
-    print_mark(mark);
-    print_word(b": ");
-    onward(call, mark, answer)
+pub fn at(
+    rt: &impl Print,
+    call: &[u8],
+    mark: Bookmark,
+    answer: WriteAnswer,
+) -> io::Result<Bookmark> {
+    print_word(rt, b"at")?;
+    print_mark(rt, mark)?;
+    print_word(rt, b": ")?;
+    onward(rt, call, mark, answer)
 }
 
 // A bookmark for calls that need none.
@@ -28,21 +35,26 @@ pub fn nowhere() -> Bookmark {
     }
 }
 
-pub fn header(buf: &mut [u8], sequence: u64, previous: &[u8; 32]) -> Bookmark {
+pub fn header(
+    rt: &impl Print,
+    buf: &mut [u8],
+    sequence: u64,
+    previous: &[u8; 32],
+) -> io::Result<Bookmark> {
     let id = b"\0\x01\x02\x03\x04\x05\x06\x07\x08\x09\x0A\x0B\x0C\x0D\x0E\x0F";
     let a = volume::heading::write_header(buf, id, sequence, previous);
-    onward(b"header", nowhere(), a)
+    onward(rt, b"header", nowhere(), a)
 }
 
 // Whether the volume that was written is the one made by other means.
-pub fn compare(written: &[u8], name: &[u8]) {
+pub fn compare(rt: &(impl Print + Eprint + Files), written: &[u8], name: &str) -> io::Result<()> {
     let mut made = [0u8; 1024];
-    let n = load(name, &mut made);
+    let n = load(rt, name, &mut made)?;
     if number::same_bytes(written, &made[..n]) {
-        print_word(b"written: the bytes of ");
+        print_word(rt, b"written: the bytes of ")?;
     } else {
-        print_word(b"written: other bytes than ");
+        print_word(rt, b"written: other bytes than ")?;
     }
-    print_word(name);
-    print_word(b"\n");
+    print_word(rt, name.as_bytes())?;
+    print_word(rt, b"\n")
 }

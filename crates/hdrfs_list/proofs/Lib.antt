@@ -1,0 +1,2 @@
+-- The parts of the proofs.
+pub mod Room

@@ -1,0 +1,6 @@
+-- As many bytes as were read stand in the buffer, and no more than it is long.
+use Rattle.std.proofs.Common.{◌≤◌, length}
+use Rattle.printing.proofs.read_full.Given as goal
+
+abbrev pub invariant-loop : goal.invariant-loop
+invariant-loop g l = l.done ≤ length l.buf
