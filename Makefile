@@ -20,8 +20,9 @@ PREFIX ?= /usr/local
 demo:
 	@rm -rf $(DEMO) && mkdir -p $(DEMO)
 	@echo "Proving what is shown here; the first time takes some minutes."
-	@tools/prove $(DEMO)/proof.log check hdrfs_list gauge_archive
+	@tools/prove $(DEMO)/proof.log ci hdrfs_list gauge_archive
 	@tail -n 1 $(DEMO)/proof.log
+	@tools/build hdrfs_list gauge_archive 2> $(DEMO)/build.log || { cat $(DEMO)/build.log; exit 1; }
 	@$(MAKE) --no-print-directory $(HDRFS)
 	@echo
 	@echo "A volume with a block of every kind, and one with a damaged byte, listed:"
@@ -73,7 +74,7 @@ demo:
 .PHONY: $(HDRFS)
 $(HDRFS):
 	@if [[ -z $${HDRFS_ARCHIVE:-} && ( ! -f $(LIBRARY) || -n $$(find crates crates.txt -newer $(LIBRARY) -print -quit) ) ]]; \
-	then mkdir -p target; tools/prove target/library.log staticlib exchange; fi
+	then mkdir -p target; tools/prove target/library.log ci exchange; tools/build exchange > target/build.log 2>&1 || { cat target/build.log; exit 1; }; fi
 	@cargo build --release --offline --quiet --manifest-path rust/Cargo.toml --package hdrfs-command
 
 install: $(HDRFS)
@@ -84,12 +85,13 @@ install: $(HDRFS)
 test:
 	@log=$$(mktemp); trap 'rm -f "$$log"' EXIT; \
 	rt ci 2>&1 | tee "$$log"; \
+	if grep -qE '^rt: ok.*, [0-9]+ bad' "$$log"; then echo "an edit that must be refused is bad"; exit 1; fi; \
 	$(MAKE) --no-print-directory calls rust-tests demo; \
 	tail -n 1 "$$log"
 
 # The exported calls, made from C through include/hdrfs.h and compared with what they must answer.
 calls:
-	rt staticlib exchange
+	tools/build exchange
 	gcc -std=c11 -Wall -Wextra -Werror -Iinclude tests/c/calls.c tests/c/texts.c tests/c/digests.c tests/c/repair.c \
 		tests/c/tree.c target/staticlib/libexchange.a -o target/calls
 	./target/calls | diff tests/c/calls.expected -
@@ -118,8 +120,8 @@ $(CRC_BITS): docs/src/crc_bits.rs docs/src/crc_forms.rs
 
 # The quick form of the proofs: only what changed since the last time is proved again.
 check:
-	rt check
+	rt all check
 
 fmt:
-	rt fmt
+	for crate in crates/*/; do (cd $$crate && rt fmt); done
 	cd rust && cargo fmt

@@ -1,7 +1,7 @@
 //! Finds the archive of a proved crate, or has it made, and tells cargo to link it. For build scripts.
 //!
 //! A variable of the environment may name a ready archive. Otherwise the repository above the
-//! package that is built is looked for, and `rt staticlib` is run there if its archive is missing or
+//! package that is built is looked for, and `tools/build` is run there if its archive is missing or
 //! older than a file under `crates/`.
 #![deny(unsafe_code)]
 

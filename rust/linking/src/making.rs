@@ -2,7 +2,6 @@
 
 use std::env;
 use std::fs;
-use std::io;
 use std::path::{Path, PathBuf};
 use std::process::{Command, Stdio};
 use std::time::SystemTime;
@@ -34,7 +33,7 @@ pub fn own_archive(archive: Archive) -> Result<PathBuf, String> {
         return Ok(path);
     }
     Err(format!(
-        "`rt staticlib {}` made no {}",
+        "`tools/build {}` made no {}",
         archive.proved,
         path.display()
     ))
@@ -80,15 +79,15 @@ fn newest(path: &Path) -> SystemTime {
 /// Has the crate proved and its archive written. What `rt` prints goes to standard error, since
 /// cargo reads standard output for orders.
 fn make_archive(archive: Archive, root: &Path) -> Result<(), String> {
-    let run = Command::new("rt")
-        .args(["staticlib", archive.proved])
+    let run = Command::new(root.join("tools/build"))
+        .arg(archive.proved)
         .current_dir(root)
         .stdin(Stdio::null())
         .output();
-    let command = format!("`rt staticlib {}`", archive.proved);
+    let command = format!("`tools/build {}`", archive.proved);
     let output = match run {
-        Ok(output) => output,
-        Err(error) if error.kind() == io::ErrorKind::NotFound => {
+        // What a shell answers where it does not find a program.
+        Ok(output) if output.status.code() == Some(127) => {
             return Err(format!(
                 "target/staticlib/{} in {}, the proved library, is missing or older than its \
                  sources, and the program `rt` that makes it is not on the PATH: install the \
@@ -98,6 +97,7 @@ fn make_archive(archive: Archive, root: &Path) -> Result<(), String> {
                 archive.ready()
             ));
         }
+        Ok(output) => output,
         Err(error) => return Err(format!("{command} could not be run: {error}")),
     };
     eprint!("{}", String::from_utf8_lossy(&output.stdout));
