@@ -33,6 +33,8 @@ use Rattle.volume.specs.Heading.{sequence_of, header_fault, first_mark, header_a
 use Rattle.volume.specs.Reading.{read_fault, next_mark, read_answer}
 use Rattle.volume.specs.inner.Check.{check_answer}
 use Rattle.volume.specs.Writing.{write_fault, write_answer, append_fault, append_answer}
+use Rattle.volume.specs.declared.LastTime.{LastTime}
+use Rattle.volume.specs.declared.LastTime.TheVariants.{Never, At}
 use Rattle.volume.specs.declared.Bookmark.{Bookmark}
 use Rattle.volume.specs.declared.Found.{Found}
 use Rattle.volume.specs.declared.HeaderAnswer.{HeaderAnswer}
@@ -65,20 +67,32 @@ use Rattle.lookup.proofs.Refusals.{RefusedByNumber, position_refused_by_number}
 use Rattle.lookup.specs.declared.PositionAnswer.{PositionAnswer}
 use Rattle.lookup.specs.declared.PositionAnswer.TheVariants as PositionAnswer
 use Rattle.lookup.specs.declared.RunsAnswer.TheVariants as RunsAnswer
-use Rattle.outgoing.specs.Marks.{flag_number, timed_number, time_number, bookmark_of}
+use Rattle.exchange.specs.Marks.{flag_number, timed_number, time_number, bookmark_of}
 use Rattle.exchange.specs.Checking.{check_numbers}
-use Rattle.outgoing.specs.Blocks.{found_numbers}
+use Rattle.exchange.specs.Blocks.{found_numbers}
 use Rattle.exchange.specs.Walking.{heading_numbers, block_numbers, link_numbers, extent_numbers}
 use Rattle.exchange.specs.Places.{place_numbers, run_count_numbers}
-use Rattle.outgoing.specs.Writing.{written_numbers}
+use Rattle.exchange.specs.Writing.{written_numbers}
 use Rattle.exchange.specs.Pairs.{pair_numbers}
 use Rattle.exchange.specs.Repairs.{repair_numbers}
 use Rattle.exchange.specs.Trees.{line_numbers}
 use Rattle.exchange.specs.inner.Back.{header_back, block_with, found_back, read_back, check_back, written_back}
 use Rattle.exchange.specs.inner.Back.{position_back, runs_back, link_back, extent_back, pair_back, repair_back, tree_back}
 use Rattle.exchange.specs.Crossing.{Crosses, FieldTold, LinksTold, none_left, told, TableTold, without_blocks, Crossing}
-use Rattle.outgoing.proofs.Crossing.{bookmark_comes_back}
 use Rattle.digests.proofs.Crossing.{state_comes_back, state_kept, new_sized, lent_state_sized, bytes_come_back}
+
+-- A bookmark that goes out as five numbers is the same bookmark when these come back.
+pub bookmark_comes_back : (mark : Bookmark)
+    → bookmark_of mark.offset (flag_number mark.due) (timed_number mark.last) (time_number mark.last) mark.number ≡ mark
+bookmark_comes_back mark = go mark.offset mark.due mark.last mark.number
+  where
+    go : (offset : ℕ) (due : Bool) (last : LastTime) (number : ℕ)
+        → bookmark_of offset (flag_number due) (timed_number last) (time_number last) number
+        ≡ record { offset = offset; due = due; last = last; number = number }
+    go offset true Never number = refl
+    go offset true (At time) number = refl
+    go offset false Never number = refl
+    go offset false (At time) number = refl
 
 -- what crosses whichever way a test goes crosses
 either : {A : Type 0} (around : A → A) (test : Bool) (one other : A)

@@ -1,7 +1,7 @@
 -- What the check of a whole volume answers, as numbers.
 use Rattle.volume.specs.declared.Verdict.{Verdict}
 use Rattle.volume.specs.declared.Verdict.TheVariants.{Accepted, Refused}
-use Rattle.outgoing.specs.Marks.{timed_number, time_number}
+use Rattle.exchange.specs.Marks.{timed_number, time_number}
 use Rattle.exchange.specs.declared.CheckNumbers.{CheckNumbers}
 
 unfoldable pub check_numbers : Verdict → CheckNumbers

@@ -33,16 +33,16 @@ use Rattle.repair.specs.Repairing.{repair_answer}
 use Rattle.tree.specs.Listing.{tree_answer}
 use Rattle.lookup.specs.inner.Answers.{position_answer, runs_answer}
 use Rattle.exchange.specs.inner.Back.{header_back, read_back, check_back, written_back, position_back, runs_back, link_back, extent_back, pair_back, repair_back, tree_back}
-use Rattle.outgoing.specs.Marks.{flag_number, timed_number, time_number, bookmark_of}
+use Rattle.exchange.specs.Marks.{flag_number, timed_number, time_number, bookmark_of}
 use Rattle.exchange.specs.Checking.{check_numbers}
 use Rattle.exchange.specs.Walking.{heading_numbers, block_numbers, link_numbers, extent_numbers}
 use Rattle.exchange.specs.Places.{place_numbers, run_count_numbers}
-use Rattle.outgoing.specs.Writing.{written_numbers}
+use Rattle.exchange.specs.Writing.{written_numbers}
 use Rattle.digests.specs.States.{SizedState, state_bytes, state_of}
 use Rattle.exchange.specs.Pairs.{pair_numbers}
 use Rattle.exchange.specs.Repairs.{repair_numbers}
 use Rattle.exchange.specs.Trees.{line_numbers}
-use Rattle.outgoing.specs.declared.BlockNumbers.{BlockNumbers}
+use Rattle.exchange.specs.declared.BlockNumbers.{BlockNumbers}
 use Rattle.exchange.specs.declared.LinkNumbers.{LinkNumbers}
 
 -- an answer that goes out as numbers is the same answer when these come back

@@ -1,8 +1,11 @@
+pub mod Marks
 pub mod Checking
+pub mod Blocks
 pub mod Walking
 pub mod Places
 pub mod Sources
 pub mod Trees
+pub mod Writing
 pub mod Pairs
 pub mod Repairs
 pub mod inner

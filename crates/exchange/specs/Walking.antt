@@ -10,10 +10,10 @@ use Rattle.volume.specs.declared.HeaderAnswer.{HeaderAnswer}
 use Rattle.volume.specs.declared.HeaderAnswer.TheVariants.{Accepted, Refused as Unsound}
 use Rattle.volume.specs.declared.ReadAnswer.{ReadAnswer}
 use Rattle.volume.specs.declared.ReadAnswer.TheVariants.{Found, End, Refused}
-use Rattle.outgoing.specs.Marks.{flag_number}
-use Rattle.outgoing.specs.Blocks.{found_numbers, no_block}
+use Rattle.exchange.specs.Marks.{flag_number}
+use Rattle.exchange.specs.Blocks.{found_numbers, no_block}
 use Rattle.exchange.specs.declared.HeadingNumbers.{HeadingNumbers}
-use Rattle.outgoing.specs.declared.BlockNumbers.{BlockNumbers}
+use Rattle.exchange.specs.declared.BlockNumbers.{BlockNumbers}
 use Rattle.exchange.specs.declared.LinkNumbers.{LinkNumbers}
 use Rattle.exchange.specs.declared.ExtentNumbers.{ExtentNumbers}
 

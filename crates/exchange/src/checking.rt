@@ -4,7 +4,7 @@ ghost use Rattle.volume.specs.inner.Check.{check_answer};
 ghost use Rattle.exchange.specs.Checking.{check_numbers};
 
 use crate::CheckNumbers;
-use outgoing::marks::{time_number, timed_number};
+use crate::marks::{time_number, timed_number};
 use volume::Verdict;
 use volume::checking::check;
 

@@ -2,15 +2,16 @@
 //
 // Each turns the answer of a public call of `volume`, `links`, `extent`, `lookup`, `sha256`, `chain`, `repair` or `tree` into numbers, by a
 // definition in specs/. The structs below have the fields of those in the header file, in its order; wherever a refusal can come, it has three of
-// them. Those of a block and of what was written stand in `outgoing`, which turns blocks and bookmarks into numbers. The calls of
-// `digesting` have no struct: a digest goes to lent bytes, and so does a state, and the refusal is the answer.
+// them. The calls of `digesting` have no struct: a digest goes to lent bytes, and so does a state, and the refusal is the answer.
 // `checking` has the check of a whole volume, `walking` the header, the blocks, the links and the extents one by one, `places`
 // positions and runs, `sources` the fetching of bytes, `writing` the writing of a header and the appends, `digesting` SHA-256,
 // `pairs` the check of a pair of volumes, `repairs` the repair of a volume whose end is cut off, and `trees` the listing of a tree.
 #![tactic(auto)]
 
+mod blocks;
 pub mod checking;
 pub mod digesting;
+mod marks;
 pub mod pairs;
 pub mod places;
 pub mod repairs;
@@ -45,6 +46,40 @@ pub struct HeadingNumbers {
     pub due: u64,
     pub id: u64,
     pub previous: u64,
+}
+
+// What reading a block answers: hdrfs_block.
+#[repr(C)]
+#[derive(Clone, Copy)]
+pub struct BlockNumbers {
+    pub refusal: u64,
+    pub text: u64,
+    pub start: u64,
+    pub end: u64,
+    pub id: u64,
+    pub number: u64,
+    pub next: u64,
+    pub due: u64,
+    pub timed: u64,
+    pub last: u64,
+    pub nextnumber: u64,
+    pub time: u64,
+    pub inode: u64,
+    pub child: u64,
+    pub parent: u64,
+    pub mode: u64,
+    pub uid: u64,
+    pub gid: u64,
+    pub atime: u64,
+    pub mtime: u64,
+    pub ctime: u64,
+    pub btime: u64,
+    pub size: u64,
+    pub count: u64,
+    pub part: u64,
+    pub partlen: u64,
+    pub second: u64,
+    pub secondlen: u64,
 }
 
 // What reading a link of a table answers: hdrfs_link_entry.
@@ -103,6 +138,20 @@ pub struct SourceNumbers {
     pub text: u64,
     pub start: u64,
     pub which: u64,
+}
+
+// What writing a header or appending a block answers, the bookmark after it: hdrfs_written.
+#[repr(C)]
+#[derive(Clone, Copy)]
+pub struct MarkNumbers {
+    pub refusal: u64,
+    pub text: u64,
+    pub start: u64,
+    pub next: u64,
+    pub due: u64,
+    pub timed: u64,
+    pub last: u64,
+    pub number: u64,
 }
 
 // What the check of a pair of volumes answers: hdrfs_paired.

@@ -1,11 +1,11 @@
 // The listing of the tree of a link table, as numbers.
 ghost use Rattle.std.specs.Prelude.{◌≡◌, length};
 ghost use Rattle.tree.specs.Listing.{tree_answer, tree_room};
-ghost use Rattle.outgoing.specs.Marks.{bookmark_of};
+ghost use Rattle.exchange.specs.Marks.{bookmark_of};
 ghost use Rattle.exchange.specs.Trees.{line_numbers};
 
 use crate::LineNumbers;
-use outgoing::marks::bookmark_of;
+use crate::marks::bookmark_of;
 use tree::{TreeAnswer, tree};
 
 // The tree below `root` of the table at the bookmark that the four numbers give. A table is due there, whatever else: so no number says it.

@@ -5,13 +5,44 @@
 ghost use Rattle.std.specs.Prelude.{◌≡◌, length};
 ghost use Rattle.format.specs.Blocks.{Inode, Link, Unlink, Xattr, RemovedXattr, Data, Rename, Table};
 ghost use Rattle.volume.specs.Writing.{append_answer, append_buffer, write_answer, write_buffer};
-ghost use Rattle.outgoing.specs.Marks.{bookmark_of};
-ghost use Rattle.outgoing.specs.Writing.{written_numbers};
+ghost use Rattle.exchange.specs.Marks.{bookmark_of};
+ghost use Rattle.exchange.specs.Writing.{written_numbers};
 
-use outgoing::MarkNumbers;
-use outgoing::marks::bookmark_of;
-use outgoing::writing::written_numbers;
+use crate::MarkNumbers;
+use crate::marks::{bookmark_of, flag_number, time_number, timed_number};
+use volume::WriteAnswer;
 use volume::heading::write_header;
+
+// The bookmark after what was written, or the refusal's number.
+fn written_numbers(answer: WriteAnswer) -> MarkNumbers
+    ensures { result ≡ written_numbers answer }
+{
+    match answer {
+        WriteAnswer::Next(mark) => {
+            let last = mark.last;
+            MarkNumbers {
+                refusal: 0,
+                text: 0,
+                start: 0,
+                next: mark.offset as u64,
+                due: flag_number(mark.due),
+                timed: timed_number(last),
+                last: time_number(last),
+                number: mark.number,
+            }
+        }
+        WriteAnswer::Refused(refusal) => MarkNumbers {
+            refusal: refusal.number,
+            text: refusal.text,
+            start: refusal.start,
+            next: 0,
+            due: 0,
+            timed: 0,
+            last: 0,
+            number: 0,
+        },
+    }
+}
 
 // Writes a header at the beginning of the buffer.
 #[unsafe(no_mangle)]

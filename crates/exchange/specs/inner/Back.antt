@@ -32,15 +32,15 @@ use Rattle.lookup.specs.declared.PositionAnswer.{PositionAnswer}
 use Rattle.lookup.specs.declared.PositionAnswer.TheVariants as PositionAnswer
 use Rattle.lookup.specs.declared.RunsAnswer.{RunsAnswer}
 use Rattle.lookup.specs.declared.RunsAnswer.TheVariants as RunsAnswer
-use Rattle.outgoing.specs.Marks.{bookmark_of}
+use Rattle.exchange.specs.Marks.{bookmark_of}
 use Rattle.exchange.specs.declared.HeadingNumbers.{HeadingNumbers}
-use Rattle.outgoing.specs.declared.BlockNumbers.{BlockNumbers}
+use Rattle.exchange.specs.declared.BlockNumbers.{BlockNumbers}
 use Rattle.exchange.specs.declared.LinkNumbers.{LinkNumbers}
 use Rattle.exchange.specs.declared.ExtentNumbers.{ExtentNumbers}
 use Rattle.exchange.specs.declared.CheckNumbers.{CheckNumbers}
 use Rattle.exchange.specs.declared.PlaceNumbers.{PlaceNumbers}
 use Rattle.exchange.specs.declared.RunCountNumbers.{RunCountNumbers}
-use Rattle.outgoing.specs.declared.MarkNumbers.{MarkNumbers}
+use Rattle.exchange.specs.declared.MarkNumbers.{MarkNumbers}
 use Rattle.exchange.specs.declared.PairNumbers.{PairNumbers}
 use Rattle.exchange.specs.declared.RepairNumbers.{RepairNumbers}
 use Rattle.exchange.specs.declared.LineNumbers.{LineNumbers}

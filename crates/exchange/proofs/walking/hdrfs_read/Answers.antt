@@ -1,6 +1,6 @@
 -- The five numbers are the bookmark, and each answer of the reading becomes the numbers that `block_numbers` gives it.
 use mathlib.Core.Path.{ap, ◌∙◌}
-use Rattle.outgoing.specs.Blocks.{found_numbers, no_block}
+use Rattle.exchange.specs.Blocks.{found_numbers, no_block}
 use Rattle.exchange.specs.Walking.{block_numbers}
 use Rattle.exchange.proofs.walking.hdrfs_read.Goals as goal
 
