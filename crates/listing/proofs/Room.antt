@@ -22,7 +22,6 @@ use Rattle.volume.specs.inner.Walk.{on_read}
 use Rattle.volume.specs.declared.Bookmark.{Bookmark}
 use Rattle.volume.specs.declared.Found.{Found}
 use Rattle.volume.specs.declared.ReadAnswer.{ReadAnswer}
-use Rattle.volume.specs.declared.ReadAnswer.TheVariants as ReadAnswer
 use Rattle.volume.proofs.Passed.{read_passed}
 use Rattle.volume.proofs.Whole.{header-length}
 use Rattle.volume.proofs.Steps.{found_at, Answers, ends, finds, refuses, answers, found_read, sound_further}

@@ -10,7 +10,6 @@ use Rattle.volume.specs.inner.Walk.{on_read}
 use Rattle.volume.specs.inner.Check.{check_answer}
 use Rattle.volume.specs.declared.Bookmark.{Bookmark}
 use Rattle.volume.specs.declared.Verdict.{Verdict}
-use Rattle.volume.specs.declared.Verdict.TheVariants as Verdict
 use Rattle.volume.proofs.Walk.{walk_step}
 use Rattle.volume.proofs.Checked.{checked}
 use Rattle.listing.specs.Listing.{heading_line, end_line, refused_line, list_limit}

@@ -8,7 +8,6 @@ use Rattle.volume.specs.Reading.{read_answer}
 use Rattle.volume.specs.declared.Bookmark.{Bookmark}
 use Rattle.volume.specs.declared.Found.{Found}
 use Rattle.volume.specs.declared.ReadAnswer.{ReadAnswer}
-use Rattle.volume.specs.declared.ReadAnswer.TheVariants as ReadAnswer
 use Rattle.volume.specs.inner.Walk.{on_read}
 use Rattle.volume.proofs.Walk.{walk_step}
 use Rattle.listing.specs.Listing.{list_limit}

@@ -9,9 +9,7 @@ use Rattle.volume.specs.Checking.{CheckedFrom, accepted_at_the_end, refused_at_a
 use Rattle.volume.specs.declared.Bookmark.{Bookmark}
 use Rattle.volume.specs.declared.Found.{Found}
 use Rattle.volume.specs.declared.HeaderAnswer.{HeaderAnswer}
-use Rattle.volume.specs.declared.HeaderAnswer.TheVariants as HeaderAnswer
 use Rattle.volume.specs.declared.ReadAnswer.{ReadAnswer}
-use Rattle.volume.specs.declared.ReadAnswer.TheVariants as ReadAnswer
 use Rattle.volume.specs.declared.Verdict.{Verdict}
 use Rattle.volume.specs.inner.Walk.{on_read}
 use Rattle.volume.specs.inner.Check.{check_way, check_from, after_header, check_answer}

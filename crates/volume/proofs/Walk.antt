@@ -9,7 +9,6 @@ use Rattle.volume.specs.Reading.{read_answer}
 use Rattle.volume.specs.declared.Bookmark.{Bookmark}
 use Rattle.volume.specs.declared.Found.{Found}
 use Rattle.volume.specs.declared.ReadAnswer.{ReadAnswer}
-use Rattle.volume.specs.declared.ReadAnswer.TheVariants as ReadAnswer
 use Rattle.volume.specs.inner.Walk.{Way, on_read, walk, walk_from}
 use Rattle.volume.proofs.Steps.{read_further}
 

@@ -13,7 +13,6 @@ use Rattle.volume.specs.declared.Found.{Found}
 use Rattle.volume.specs.declared.HeaderAnswer.TheVariants as HeaderAnswer
 use Rattle.volume.specs.declared.ReadAnswer.TheVariants as ReadAnswer
 use Rattle.volume.specs.declared.Verdict.{Verdict}
-use Rattle.volume.specs.declared.Verdict.TheVariants as Verdict
 
 -- From a bookmark on. The blocks accepted before it are the bookmark's number.
 pub data CheckedFrom (volume : List ℕ) (sequence : ℕ) : Bookmark → Verdict → Type 0 where

@@ -1,10 +1,9 @@
 -- After the heading stands what the length of the volume and then its header decide. The text is never too long to count.
 use Prim.Native.Nat.{ℕ, ◌+◌, ◌≤◌, ◌<◌}
-use mathlib.Core.Path.{◌≡◌, sym, ◌∙◌}
+use mathlib.Core.Path.{◌≡◌, sym}
 use mathlib.Core.List.{List, ◌++◌}
 use native.Mathlib.Omega.{arith}
 use lib.ListN.{length, length-append}
-use borrow.Author.Rules.{rules}
 use borrow.Author.Tests.{lt-ltb, le-ltb}
 use Rattle.volume.specs.Heading.{header_answer}
 use Rattle.volume.specs.declared.HeaderAnswer.{HeaderAnswer}

@@ -7,7 +7,6 @@ use Rattle.volume.specs.inner.Walk.{Way, walk_from}
 use Rattle.volume.specs.declared.Bookmark.{Bookmark}
 use Rattle.volume.specs.declared.Found.{Found}
 use Rattle.volume.specs.declared.HeaderAnswer.{HeaderAnswer}
-use Rattle.volume.specs.declared.HeaderAnswer.TheVariants as HeaderAnswer
 use Rattle.listing.specs.Listing.{heading_line, block_line, end_line, refused_line, list_limit}
 
 -- the line of the block that is handed out at a bookmark. The block ends where the next bookmark stands

@@ -4,9 +4,7 @@ use Rattle.std.specs.Prelude.{ℕ, List}
 use Rattle.volume.specs.Heading.{header_answer}
 use Rattle.volume.specs.declared.Bookmark.{Bookmark}
 use Rattle.volume.specs.declared.HeaderAnswer.{HeaderAnswer}
-use Rattle.volume.specs.declared.HeaderAnswer.TheVariants as HeaderAnswer
 use Rattle.volume.specs.declared.Verdict.{Verdict}
-use Rattle.volume.specs.declared.Verdict.TheVariants as Verdict
 use Rattle.volume.specs.inner.Walk.{Way, walk_from}
 
 abbrev pub check_way : (sequence : ℕ) → Way Verdict

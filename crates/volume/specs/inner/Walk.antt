@@ -7,7 +7,6 @@ use Rattle.volume.specs.Reading.{read_answer}
 use Rattle.volume.specs.declared.Bookmark.{Bookmark}
 use Rattle.volume.specs.declared.Found.{Found}
 use Rattle.volume.specs.declared.ReadAnswer.{ReadAnswer}
-use Rattle.volume.specs.declared.ReadAnswer.TheVariants as ReadAnswer
 
 -- What a walk makes of each reading. At a block it may make its answer from the answer of the walk that goes on from the next bookmark,
 -- or stop. A walk that keeps something from block to block has an answer that is a function of it.

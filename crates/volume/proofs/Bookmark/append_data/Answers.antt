@@ -6,7 +6,6 @@ use lib.ListN.{length}
 use Rattle.checks.specs.Checks.{first_fault}
 use Rattle.refusal.proofs.Laws.{without_texts}
 use Rattle.format.specs.Blocks.{Data}
-use Rattle.request.specs.Asking.{Sized}
 use Rattle.volume.proofs.Writers.{Told, told, room_left, counted, refused, accepted}
 use Rattle.volume.proofs.Bookmark.append_data.Goals as goal
 
