@@ -1,7 +1,7 @@
 -- A register moved past 300 zero bytes is the sum of itself and of itself moved past 89, 117 and 155.
 -- For 1 + x^89 + x^117 + x^155 + x^300 is a multiple of the polynomial, and so is the same with every exponent times eight.
 -- It is computed for one register, and holds of the others since they are that one moved on by bits, and sums of these.
-use Prim.Native.Nat.{ℕ, zero, suc, ◌+◌, ◌*◌, ◌/◌, ◌%◌, ◌^◌, ◌<◌}
+use Prim.Native.Nat.{ℕ, zero, suc, ◌*◌, ◌/◌, ◌%◌, ◌^◌, ◌<◌}
 use mathlib.Core.Path.{◌≡◌, refl, sym, ap, ap₂, ◌∙◌, subst}
 use native.Mathlib.Omega.{arith}
 use native.Mathlib.Nat.{mod-lt, zero-mul, one-mul, pow-suc, div-lt_iff_lt-mul}

@@ -1,11 +1,10 @@
 -- A state comes back from its bytes, and lent bytes from the state that they are taken for. Assumes nothing.
 use Prim.Native.Nat.{ℕ, ◌+◌, ◌≤◌}
 use mathlib.Core.Path.{◌≡◌, refl, sym, subst⁻¹, ap, ap₂, ◌∙◌}
-use mathlib.Core.List.{List, [], ◌∷◌, ◌++◌, append_assoc, append-nil}
-use native.Mathlib.Nat.{zero-add}
+use mathlib.Core.List.{List, [], ◌∷◌, ◌++◌, append_assoc}
 use native.Mathlib.Omega.{arith}
 use lib.Dec.{lit<}
-use lib.ListN.{length, take, drop, get_or, length-append, drop_of_length-le}
+use lib.ListN.{length, take, drop, get_or, length-append}
 use lib.Seq.{drop_at, take-add}
 use Rattle.number.specs.Number.{Bytes, le_bytes, part, put}
 use Rattle.number.proofs.Parts.{length_part, part_at}

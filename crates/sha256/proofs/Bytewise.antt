@@ -1,18 +1,16 @@
 -- Bytes fed one by one: few that do not fill the block, those that fill it, and whole blocks. Assumes nothing.
 use Prim.Native.Nat.{ℕ, zero, suc, ◌+◌, ◌-◌, ◌*◌, ◌/◌, ◌%◌, ◌≤◌, ◌<◌}
 use mathlib.Core.Path.{◌≡◌, refl, sym, ap, ap₂, ◌∙◌}
-use mathlib.Core.Bool.{Bool, true, false, cond}
-use mathlib.Core.List.{List, [], ◌∷◌, ◌++◌, foldl, foldl-append, append-nil}
+use mathlib.Core.List.{List, [], ◌∷◌, foldl, foldl-append}
 use native.Mathlib.Numerals.{unary_clauses}
 use native.Mathlib.Nat.{sub-zero}
 use native.Mathlib.Omega.{arith}
-use lib.Dec.{eqb}
-use lib.ListN.{length, take, drop, set, length-set, length-drop, take-append-drop, drop_of_length-le}
+use lib.ListN.{length, take, drop, set, length-set, length-drop, take-append-drop}
 use lib.Seq.{length-take-le, drop-drop}
-use borrow.Author.Tests.{eq-eqb, ne_eqb}
+use borrow.Author.Tests.{ne_eqb}
 use Rattle.number.specs.Number.{part, put}
 use Rattle.number.proofs.Parts.{part_onward}
-use Rattle.number.proofs.Put.{put_nothing, put-set, put_next, length-put, put_fits}
+use Rattle.number.proofs.Put.{put_nothing, put-set, put_next, length-put}
 use Rattle.fips180.specs.Padding.{blocks}
 use Rattle.fips180.specs.Hash.{hashed}
 use Rattle.sha256.specs.Feeding.{feed_byte}

@@ -1,15 +1,15 @@
 -- The digest of bytes that were fed is the digest of these bytes. Assumes nothing.
 use Prim.Native.Nat.{ℕ, zero, suc, ◌+◌, ◌-◌, ◌*◌, ◌/◌, ◌%◌, ◌≤◌, ◌<◌}
-use mathlib.Core.Path.{◌≡◌, refl, sym, ap, ap₂, ◌∙◌}
+use mathlib.Core.Path.{◌≡◌, refl, sym, ap, ◌∙◌}
 use mathlib.Core.Bool.{Bool, true, false, cond}
 use mathlib.Core.Logic.{⊎_elim}
 use mathlib.Mathlib.Data.Bool.Basic.{dichotomy}
-use mathlib.Core.List.{List, [], ◌∷◌, ◌++◌, foldl, foldl-append, append_assoc}
+use mathlib.Core.List.{List, ◌++◌, foldl, foldl-append, append_assoc}
 use native.Mathlib.Nat.{zero-add}
 use native.Mathlib.Omega.{arith}
-use lib.ListN.{length, take, drop, replicate, length-append, length-drop, length-replicate, take-append-drop}
-use lib.Seq.{length-take-le, take-append-le, drop-append-le}
-use Rattle.number.specs.Number.{part, put}
+use lib.ListN.{length, take, drop, replicate, length-drop, take-append-drop}
+use lib.Seq.{length-take-le}
+use Rattle.number.specs.Number.{put}
 use Rattle.number.proofs.Put.{part_put}
 use Rattle.fips180.specs.Constants.{H0}
 use Rattle.fips180.specs.Padding.{padding, blocks}
@@ -17,8 +17,7 @@ use Rattle.fips180.specs.Hash.{hashed, word_bytes, sha256}
 use Rattle.sha256.specs.Feeding.{new, feed_byte, too_many, feed_answer, digest_of, finish_answer, whole_answer}
 use Rattle.fips180.specs.declared.Words.{Words}
 use Rattle.sha256.specs.declared.Fed.{Fed}
-use Rattle.sha256.specs.declared.Finished.{Finished}
-use Rattle.fips180.proofs.Parts.{blocks_more, blocks_none, blocks-append}
+use Rattle.fips180.proofs.Parts.{blocks-append}
 use Rattle.sha256.proofs.Bytewise.{state, few, whole, in_two, fed_sum}
 
 -- few bytes after whole blocks: they are hashed with the padding

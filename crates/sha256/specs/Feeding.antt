@@ -5,7 +5,6 @@ use mathlib.Core.List.{List, ◌++◌, foldl}
 use Rattle.fips180.specs.Constants.{H0}
 use Rattle.fips180.specs.Padding.{padding, blocks}
 use Rattle.fips180.specs.Hash.{hashed, word_bytes, sha256}
-use Rattle.fips180.specs.declared.Words.{Words}
 use Rattle.sha256.specs.declared.Digest.{Digest}
 use Rattle.sha256.specs.declared.Fed.{Fed}
 use Rattle.sha256.specs.declared.Finished.{Finished}

@@ -1,4 +1,3 @@
-use Prim.Native.Nat.{◌-◌}
 use native.Mathlib.Omega.{arith}
 use Rattle.fips180.specs.Hash.{hashed}
 use Rattle.fips180.proofs.Parts.{blocks_turn, blocks_end}

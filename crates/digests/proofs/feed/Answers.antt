@@ -1,12 +1,8 @@
 -- The room decides first, then the answer of sha256. A state that comes from a call is sized by its type.
-use mathlib.Core.Path.{◌≡◌, refl, ◌∙◌}
+use mathlib.Core.Path.{refl, ◌∙◌}
 use native.Mathlib.Omega.{arith}
-use lib.ListN.{length}
-use mir.Syntax.{w32, w64}
-use mir.Val.{Fits}
 use borrow.Author.Tests.{lt-ltb, le-ltb}
 use borrow.Author.Rules.{rules}
-use Rattle.sha256.specs.declared.Digest.{Digest}
 use Rattle.digests.specs.States.{SizedState, state_of}
 use Rattle.digests.proofs.Handed.{hit, miss, clear, handed, feed_refused, feed_done}
 use Rattle.digests.proofs.feed.Goals as goal
@@ -26,7 +22,7 @@ returns-then-fed-ne0 c =
 pub returns : goal.returns
 returns c =
     let args = c.args in
+    let known : SizedState c.feed-fed.result.state = record { fit = search rules; long = c.write_state.ensures.long } in
     let r = feed_done (state_of args.state.now) args.part.now (c.feed-fed.ensures ∙ rw c.read_state.ensures) c.if-fed-ne0.false in
     let h = handed (miss (le-ltb _ _ c.if-state-lt-STATE.false) (miss r.0 (clear (rw r.1 at c.write_state.ensures.state)))) in
-    let known : SizedState c.feed-fed.result.state = record { fit = search rules; long = c.write_state.ensures.long } in
     record { answer = h.0; state = h.1; sized = λ none. rw r.1 at known }
