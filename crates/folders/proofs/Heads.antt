@@ -10,10 +10,10 @@ use lib.Dec.{ltb, eqb}
 use lib.ListN.{length, get_or, set}
 use lib.Seq.{get_or-set_same, get_or-set_other}
 use borrow.Author.Tests.{lt-ltb, ltb-true, eq-eqb, eqb-true}
-use Rattle.order.specs.Order.{Rising, Placed, Inserted}
+use Rattle.order.specs.Order.{Placed, Inserted}
 use Rattle.order.proofs.Cases.{cases}
 use Rattle.order.proofs.Inserts.{inserted_each, inserted_kept, inserted_rising}
-use Rattle.folders.specs.inner.Folders.{parent_of, NextIn, Chained, Opened, Sorted, Heads}
+use Rattle.folders.specs.inner.Folders.{parent_of, NextIn, Chained, Opened, Heads}
 use Rattle.folders.proofs.Places.{next_none, next_self, next_skip}
 
 -- two numbers are the same or not

@@ -1,5 +1,5 @@
 -- The counts from `i` on follow from those below.
-use Prim.Native.Nat.{◌-◌, ◌≤◌}
+use Prim.Native.Nat.{◌≤◌}
 use mathlib.Core.Path.{◌≡◌}
 use lib.ListN.{length}
 use Rattle.counts.specs.inner.Counting.{Follows}

@@ -1,5 +1,5 @@
 -- The links from `i` on are in the index.
-use Prim.Native.Nat.{◌-◌, ◌≤◌}
+use Prim.Native.Nat.{◌≤◌}
 use mathlib.Core.Path.{◌≡◌}
 use lib.ListN.{length}
 use Rattle.folders.specs.inner.Folders.{Chained, Heads}

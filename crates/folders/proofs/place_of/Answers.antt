@@ -1,4 +1,4 @@
-use Prim.Native.Nat.{◌+◌, ◌-◌, ◌/◌}
+use Prim.Native.Nat.{◌+◌, ◌/◌}
 use native.Mathlib.Omega.{arith}
 use Rattle.order.proofs.Halving.{between_all, between_above, between_below, placed}
 use Rattle.folders.proofs.place_of.Goals as goal
