@@ -14,7 +14,7 @@ use Rattle.sha256.specs.declared.Digest.{Digest}
 use Rattle.sha256.specs.declared.Fed.{Fed}
 use Rattle.sha256.specs.declared.Finished.{Finished}
 use Rattle.claims.specs.Digests.{end_to_end, AllFed, none_left, one_more, DigestClaim}
-use Rattle.claims.specs.WrongCalls.{feeds_nothing}
+use Rattle.claims.specs.Wrong.{feeds_nothing}
 
 stays : {state last : Digest} {parts : List (List ℕ)} → AllFed new feeds_nothing finish_answer whole_answer state parts last → last ≡ state
 stays none_left = refl

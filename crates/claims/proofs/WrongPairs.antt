@@ -21,7 +21,7 @@ use Rattle.chain.specs.declared.Pairing.TheVariants.{Follows, DoesNotFollow}
 use Rattle.chain.proofs.Following.{Following}
 use Rattle.claims.specs.Library.{ours}
 use Rattle.claims.specs.Chained.{FollowsOn, PairClaim}
-use Rattle.claims.specs.WrongCalls.{pairing, any_id, any_hash, no_pair}
+use Rattle.claims.specs.Wrong.{pairing, any_id, any_hash, no_pair}
 use Rattle.claims.proofs.Bytes.{all_small, small_bytes, zeros_bytes, volume_bytes}
 use Rattle.claims.proofs.Chained.{header_shown, by_the_bytes, accepted}
 use Rattle.claims.proofs.Tried.{bare, first_rules, bare_keeps, bare_long, whole, tabled, tabled_keeps, link_bytes}

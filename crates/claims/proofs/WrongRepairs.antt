@@ -39,8 +39,7 @@ use Rattle.claims.specs.Samples.{first}
 use Rattle.claims.specs.Demand3Reading.{Calls, ended, handed, at_a_block}
 use Rattle.claims.specs.Torn.{TornAppend, TornClaim, Repairs, RepairClaim}
 use Rattle.claims.specs.Torn as Torn
-use Rattle.claims.specs.WrongCalls.{leaves_all, leaves_header, drops_damaged, drops_table}
-use Rattle.claims.specs.Wrong.{damaged_for_cut, tells_damage}
+use Rattle.claims.specs.Wrong.{leaves_all, leaves_header, drops_damaged, drops_table, damaged_for_cut, tells_damage}
 use Rattle.claims.proofs.Appending.{admitted_appended}
 use Rattle.claims.proofs.Walk.{after_all}
 use Rattle.claims.proofs.Bytes.{all_small, small_bytes, header_bytes_lem, volume_bytes}

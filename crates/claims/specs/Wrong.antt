@@ -1,15 +1,19 @@
 -- Libraries that are wrong, each in one way, and that a claim is false of. The first are the empty programs that a claim has to shut
 -- out: they answer, but nothing comes of it. The next are right wherever a claim used to look, and wrong beside it. Two go by another
 -- rule for times, three count blocks in another way, four tell the wrong text or place, and one takes a torn append for a damaged one.
--- The calls that are wrong and stand in no library are in WrongCalls.antt.
+-- The wrong listings of trees, which stand in no library, are in WrongCalls.antt.
 --
 -- What a wrong library answers is what ours does, but for the calls named. Proved in proofs/Wrong.antt.
-use Rattle.std.specs.Prelude.{ℕ, suc, ◌+◌, ◌-◌, Bool, true, false, cond, List, [], ◌++◌, eqb, length}
+use Rattle.std.specs.Prelude.{ℕ, suc, ◌+◌, ◌-◌, Bool, true, false, not, cond, ◌&&◌, ◌||◌, List, [], ◌++◌, eqb, length}
 use Rattle.std.proofs.Math.Option.{Option, none, some}
 use Rattle.number.specs.Number.{put}
+use Rattle.number.specs.inner.Same.{same_bytes}
 use Rattle.refusal.specs.Refusal.{refusal_of}
 use Rattle.refusal.specs.inner.FirstBad.{first_bad}
 use Rattle.refusal.specs.declared.Refusal.{Refusal}
+use Rattle.fips180.specs.Hash.{sha256}
+use Rattle.sha256.specs.declared.Digest.{Digest}
+use Rattle.sha256.specs.declared.Fed.{Fed}
 use Rattle.sha256.specs.Feeding.{new, finish_answer, whole_answer}
 use Rattle.format.specs.Blocks as format
 use Rattle.format.specs.Headers.{Header}
@@ -20,6 +24,7 @@ use Rattle.block.specs.inner.Decoded.{block_at}
 use Rattle.block.specs.declared.Block.{Block}
 use Rattle.block.specs.declared.Block.TheVariants as block
 use Rattle.texts.specs.Texts.{texts}
+use Rattle.volume.specs.Heading.{header_bytes, sequence_of}
 use Rattle.volume.specs.declared.LastTime.{LastTime}
 use Rattle.volume.specs.declared.LastTime.TheVariants.{Never, At}
 use Rattle.volume.specs.declared.Bookmark.{Bookmark}
@@ -30,6 +35,11 @@ use Rattle.volume.specs.declared.Verdict.{Verdict}
 use Rattle.volume.specs.declared.Verdict.TheVariants as verdict
 use Rattle.volume.specs.declared.WriteAnswer.{WriteAnswer}
 use Rattle.volume.specs.declared.WriteAnswer.TheVariants as write
+use Rattle.chain.specs.Pairing.{paired}
+use Rattle.chain.specs.declared.Pairing.{Pairing}
+use Rattle.repair.specs.Repairing.{in_header, in_table, is_torn}
+use Rattle.repair.specs.declared.RepairAnswer.{RepairAnswer}
+use Rattle.repair.specs.declared.RepairAnswer.TheVariants as repair
 use Rattle.lookup.specs.declared.PositionAnswer.{PositionAnswer}
 use Rattle.lookup.specs.declared.PositionAnswer.TheVariants as place
 use Rattle.lookup.specs.declared.RunsAnswer.TheVariants as runs
@@ -45,7 +55,7 @@ use Rattle.claims.specs.Chained.{PairClaim}
 use Rattle.claims.specs.Digests.{DigestClaim}
 use Rattle.claims.specs.Torn.{TornClaim, RepairClaim}
 use Rattle.claims.specs.Tree.{TreeClaim}
-use Rattle.claims.specs.WrongCalls.{pairing, any_id, any_hash, no_pair, feeds_nothing, leaves_all, leaves_header, drops_damaged, drops_table, tree_by, list_by, lines_in_order, deeper, in_folder, once_in_order, once, deep_first, as_they_are}
+use Rattle.claims.specs.WrongCalls.{tree_by, list_by, lines_in_order, deeper, in_folder, once_in_order, once, deep_first, as_they_are}
 
 -- ours, but for these calls
 abbrev pub answering :
@@ -293,6 +303,62 @@ damaged_for_cut (verdict.Refused rejected) =
 
 abbrev pub tells_damage : Library
 tells_damage = checking (λ volume. damaged_for_cut (ours.check volume))
+
+-- Wrong about pairs: the volumes are refused as ours does, and whether the second follows goes by another test.
+abbrev pub pairing : (test : (first second : List ℕ) → Bool) → (first second : List ℕ) → Pairing
+pairing test first second = paired (ours.check first) (ours.check second) (test first second)
+
+-- one does not compare the file system IDs
+abbrev pub any_id : (first second : List ℕ) → Bool
+any_id first second = eqb (sequence_of second) (suc (sequence_of first)) && same_bytes (header_bytes "previous hash" second) (sha256 first)
+
+-- one takes any hash
+abbrev pub any_hash : (first second : List ℕ) → Bool
+any_hash first second =
+    same_bytes (header_bytes "file system ID" second) (header_bytes "file system ID" first)
+    && eqb (sequence_of second) (suc (sequence_of first))
+
+-- one refuses all pairs
+abbrev pub no_pair : (first second : List ℕ) → Bool
+no_pair first second = false
+
+-- Wrong about digests: nothing is fed, and the state stays as it was.
+abbrev pub feeds_nothing : Digest → (part : List ℕ) → Fed
+feeds_nothing state part = record { refusal = 0; state = state }
+
+-- Wrong about repairing: another test for what is torn, or another length that is left.
+abbrev pub repairing :
+    (test : (sequence number offset : ℕ) → Bool)
+    (left : (volume : List ℕ) (offset : ℕ) → ℕ)
+    (volume : List ℕ)
+    → Verdict
+    → RepairAnswer
+repairing test left volume (verdict.Accepted accepted) = repair.Length (length volume)
+repairing test left volume (verdict.Refused rejected) =
+    cond (test (sequence_of volume) rejected.refusal.number rejected.offset) (repair.Length (left volume rejected.offset))
+    (repair.Refused rejected.refusal)
+
+-- one leaves all of a torn volume
+abbrev pub leaves_all : (volume : List ℕ) → RepairAnswer
+leaves_all volume = repairing is_torn (λ whole offset. length whole) volume (ours.check volume)
+
+-- one leaves the header alone
+abbrev pub leaves_header : (volume : List ℕ) → RepairAnswer
+leaves_header volume = repairing is_torn (λ whole offset. 80) volume (ours.check volume)
+
+-- one drops a block whose checksum is wrong, too
+abbrev pub torn_or_damaged : (sequence number offset : ℕ) → Bool
+torn_or_damaged sequence number offset = (eqb number 2 || eqb number 5) && not (in_header offset || in_table sequence offset)
+
+abbrev pub drops_damaged : (volume : List ℕ) → RepairAnswer
+drops_damaged volume = repairing torn_or_damaged (λ whole offset. offset) volume (ours.check volume)
+
+-- one drops a table that is cut
+abbrev pub behind_header : (sequence number offset : ℕ) → Bool
+behind_header sequence number offset = eqb number 2 && not (in_header offset)
+
+abbrev pub drops_table : (volume : List ℕ) → RepairAnswer
+drops_table volume = repairing behind_header (λ whole offset. offset) volume (ours.check volume)
 
 -- No claim holds of them.
 pub record WrongAreShutOut : Type 0 where
