@@ -19,7 +19,6 @@ use Rattle.extent.specs.Extents.{extent_at}
 use Rattle.links.specs.Links.{link_from}
 use Rattle.links.specs.Walked.{Walked, none_left as ended, handed}
 use Rattle.links.specs.declared.LinkAnswer.{LinkAnswer}
-use Rattle.links.specs.declared.LinkAnswer.TheVariants as LinkAnswer
 use Rattle.links.proofs.Tables.{links_shown, links_fill_bytes}
 use Rattle.links.proofs.Walks.{walked_to_the_end}
 use Rattle.block.specs.Fields.{kind_with, bytes_of}
@@ -38,13 +37,9 @@ use Rattle.volume.specs.declared.LastTime.TheVariants.{Never, At}
 use Rattle.volume.specs.declared.Bookmark.{Bookmark}
 use Rattle.volume.specs.declared.Found.{Found}
 use Rattle.volume.specs.declared.HeaderAnswer.{HeaderAnswer}
-use Rattle.volume.specs.declared.HeaderAnswer.TheVariants as HeaderAnswer
 use Rattle.volume.specs.declared.ReadAnswer.{ReadAnswer}
-use Rattle.volume.specs.declared.ReadAnswer.TheVariants as ReadAnswer
 use Rattle.volume.specs.declared.Verdict.{Verdict}
-use Rattle.volume.specs.declared.Verdict.TheVariants as Verdict
 use Rattle.volume.specs.declared.WriteAnswer.{WriteAnswer}
-use Rattle.volume.specs.declared.WriteAnswer.TheVariants as WriteAnswer
 use Rattle.volume.proofs.Whole.{header-length}
 use Rattle.volume.proofs.Steps.{refusal_at, Answers, ends, finds, refuses, answers}
 use Rattle.volume.proofs.HeaderImage.{HeaderAnswers, accepts, rejects, header_answers}
@@ -52,20 +47,16 @@ use Rattle.volume.proofs.Verdicts.{EndsWell, check_ends_well}
 use Rattle.volume.proofs.TableLinks.{table_rules}
 use Rattle.chain.specs.Pairing.{follows, paired, pair_answer}
 use Rattle.chain.specs.declared.Pairing.{Pairing}
-use Rattle.chain.specs.declared.Pairing.TheVariants as Pairing
 use Rattle.repair.specs.Repairing.{repair_answer}
 use Rattle.repair.specs.declared.RepairAnswer.{RepairAnswer}
-use Rattle.repair.specs.declared.RepairAnswer.TheVariants as RepairAnswer
 use Rattle.tree.specs.Listing.{tree_answer}
 use Rattle.tree.specs.declared.TreeAnswer.{TreeAnswer}
-use Rattle.tree.specs.declared.TreeAnswer.TheVariants as TreeAnswer
 use Rattle.tree.proofs.Answers.{RefusedByNumber as TreeRefused, tree_refused_by_number}
 use Rattle.repair.proofs.Refusals.{RefusedByNumber as RepairRefused, repair_refused_by_number}
 use Rattle.lookup.specs.inner.Answers.{position_answer, runs_answer}
 use Rattle.lookup.specs.Lookup.{runs_fault}
 use Rattle.lookup.proofs.Refusals.{RefusedByNumber, position_refused_by_number}
 use Rattle.lookup.specs.declared.PositionAnswer.{PositionAnswer}
-use Rattle.lookup.specs.declared.PositionAnswer.TheVariants as PositionAnswer
 use Rattle.lookup.specs.declared.RunsAnswer.TheVariants as RunsAnswer
 use Rattle.exchange.specs.Marks.{flag_number, timed_number, time_number, bookmark_of}
 use Rattle.exchange.specs.Checking.{check_numbers}

@@ -6,7 +6,6 @@ use Rattle.refusal.specs.declared.Refusal.{Refusal}
 use Rattle.format.specs.Blocks.{Kind, inode_block, link_block, unlink_block, xattr_block, removed_xattr_block, data_block, rename_block, link_table}
 use Rattle.format.specs.declared.Extent.{Extent}
 use Rattle.links.specs.declared.LinkAnswer.{LinkAnswer}
-use Rattle.links.specs.declared.LinkAnswer.TheVariants as LinkAnswer
 use Rattle.block.specs.Fields.{kind_with}
 use Rattle.block.specs.declared.Part.{Part}
 use Rattle.block.specs.declared.LinkBlock.{LinkBlock}
@@ -14,24 +13,15 @@ use Rattle.block.specs.declared.Block.{Block}
 use Rattle.block.specs.declared.Block.TheVariants.{Inode, Link, Unlink, Xattr, RemovedXattr, Data, Rename, Table}
 use Rattle.volume.specs.declared.Found.{Found}
 use Rattle.volume.specs.declared.HeaderAnswer.{HeaderAnswer}
-use Rattle.volume.specs.declared.HeaderAnswer.TheVariants as HeaderAnswer
 use Rattle.volume.specs.declared.ReadAnswer.{ReadAnswer}
-use Rattle.volume.specs.declared.ReadAnswer.TheVariants as ReadAnswer
 use Rattle.volume.specs.declared.Verdict.{Verdict}
-use Rattle.volume.specs.declared.Verdict.TheVariants as Verdict
 use Rattle.volume.specs.declared.WriteAnswer.{WriteAnswer}
-use Rattle.volume.specs.declared.WriteAnswer.TheVariants as WriteAnswer
 use Rattle.volume.specs.declared.Rejected.{Rejected}
 use Rattle.chain.specs.declared.Pairing.{Pairing}
-use Rattle.chain.specs.declared.Pairing.TheVariants as Pairing
 use Rattle.repair.specs.declared.RepairAnswer.{RepairAnswer}
-use Rattle.repair.specs.declared.RepairAnswer.TheVariants as RepairAnswer
 use Rattle.tree.specs.declared.TreeAnswer.{TreeAnswer}
-use Rattle.tree.specs.declared.TreeAnswer.TheVariants as TreeAnswer
 use Rattle.lookup.specs.declared.PositionAnswer.{PositionAnswer}
-use Rattle.lookup.specs.declared.PositionAnswer.TheVariants as PositionAnswer
 use Rattle.lookup.specs.declared.RunsAnswer.{RunsAnswer}
-use Rattle.lookup.specs.declared.RunsAnswer.TheVariants as RunsAnswer
 use Rattle.exchange.specs.Marks.{bookmark_of}
 use Rattle.exchange.specs.declared.HeadingNumbers.{HeadingNumbers}
 use Rattle.exchange.specs.declared.BlockNumbers.{BlockNumbers}

@@ -4,7 +4,7 @@ use mathlib.Core.Path.{sym, ap, ◌∙◌}
 use native.Mathlib.Nat.{add_comm}
 use borrow.Author.Tests.{ne_eqb}
 use Rattle.lookup.specs.inner.Part.{fetch_part, fetch_address}
-use Rattle.lookup.proofs.Fetch.{Held, held_in_first, held_in_second}
+use Rattle.lookup.proofs.Fetch.{held_in_first, held_in_second}
 use Rattle.lookup.proofs.bytes.fetch.Goals as goal
 
 pub returns-then-fetch_refusal-ne0-clause-bytes : goal.returns-then-fetch_refusal-ne0-clause-bytes

@@ -1,8 +1,5 @@
 -- The part from the offset to the offset and the length.
-use Prim.Native.Nat.{ℕ}
-use mathlib.Core.Path.{ap}
 use native.Mathlib.Nat.{add-sub_cancel_left}
-use native.Mathlib.Omega.{arith}
 use Rattle.lookup.proofs.bytes.part_at.Goals as goal
 
 pub returns-clause-bytes : goal.returns-clause-bytes

@@ -1,10 +1,8 @@
-use Prim.Native.Nat.{◌-◌}
 use mathlib.Core.Path.{◌≡◌, sym, ap, ◌∙◌}
-use mathlib.Core.Bool.{false}
 use native.Mathlib.Omega.{arith}
 use Rattle.checks.proofs.Scan.{any_zero, any_more, any_hit}
 use Rattle.checks.proofs.Tests.{told}
-use Rattle.extent.specs.Extents.{extent_at, extent_count}
+use Rattle.extent.specs.Extents.{extent_count}
 use Rattle.extent.proofs.Sound.{each_sound}
 use Rattle.lookup.specs.Lookup.{is_absent, some_absent}
 use Rattle.lookup.proofs.presence.some_absent.Goals as goal
