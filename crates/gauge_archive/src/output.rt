@@ -18,13 +18,19 @@ fn print_refused(rt: &impl Print, v: Rejected) -> io::Result<()> {
     print_word(rt, b" blocks\n")
 }
 
-// Saves a volume under the name that argument `i` gives. Where that fails, the program says so and goes on.
+// Where a volume can't be saved, the program says so and goes on.
+fn save<R: Runtime>(rt: &R, name: &str, volume: &[u8]) -> io::Result<()> {
+    if let Err(error) = fs::write(rt, name, volume) {
+        eprintln!(rt; "{name}: {error}")?;
+    }
+    Ok(())
+}
+
+// Saves a volume under the name that argument `i` gives.
 fn save_as<R: Runtime>(rt: &R, i: usize, volume: &[u8]) -> io::Result<()> {
     for (place, name) in env::args(rt)?.enumerate() {
         if place == i {
-            if let Err(error) = fs::write(rt, name.as_str(), volume) {
-                eprintln!(rt; "{name}: {error}")?;
-            }
+            save(rt, name.as_str(), volume)?;
         }
     }
     Ok(())

@@ -4,6 +4,7 @@
 
 pub mod bookmarks;
 
+ghost use Rattle.std.specs.Prelude.{◌≡◌, length};
 ghost use Rattle.std.specs.Io.{ReadsAtMost};
 
 use refusal::{NOT_TEXT, Refusal};
@@ -40,7 +41,8 @@ pub fn print_refusal(rt: &impl Print, refusal: Refusal) -> io::Result<()> {
 
 // Internal: reads until the buffer is full or the input ends, and answers how many bytes came.
 pub fn read_full<R: Read>(reader: &mut R, buf: &mut [u8]) -> io::Result<usize>
-    ensures { ReadsAtMost result buf.new }
+    ensures within { ReadsAtMost result buf.new }
+    ensures kept_length { length buf.new ≡ length buf.old }
 {
     let mut done: usize = 0;
     for _ in 0..buf.len() {
@@ -55,7 +57,8 @@ pub fn read_full<R: Read>(reader: &mut R, buf: &mut [u8]) -> io::Result<usize>
 
 // Internal: reads a file into the buffer, and answers how many bytes it has; a file that can't be opened has none.
 pub fn load<R: Files + Eprint>(rt: &R, name: &str, buf: &mut [u8]) -> io::Result<usize>
-    ensures { ReadsAtMost result buf.new }
+    ensures within { ReadsAtMost result buf.new }
+    ensures kept_length { length buf.new ≡ length buf.old }
 {
     match fs::open(rt, name) {
         Ok(file) => {

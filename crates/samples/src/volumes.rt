@@ -36,9 +36,18 @@ fn row(rt: &(impl Print + Eprint + Files), name: &str) -> io::Result<()> {
     print_verdict(rt, &buf[..n])
 }
 
+fn argument<R: Runtime>(rt: &R, i: usize) -> io::Result<()> {
+    for (place, name) in env::args(rt)?.enumerate() {
+        if place == i {
+            row(rt, name.as_str())?;
+        }
+    }
+    Ok(())
+}
+
 pub fn all<R: Runtime>(rt: &R) -> io::Result<()> {
-    for name in env::args(rt)?.skip(1) {
-        row(rt, name.as_str())?;
+    for i in 1..env::args(rt)?.len() {
+        argument(rt, i)?;
     }
     Ok(())
 }
