@@ -1,7 +1,8 @@
 -- Libraries that are wrong, each in one way, and that a claim is false of. The first are the empty programs that a claim has to shut
 -- out: they answer, but nothing comes of it. The next are right wherever a claim used to look, and wrong beside it. Two go by another
--- rule for times, three count blocks in another way, four tell the wrong text or place, and one takes a torn append for a damaged one.
--- The wrong listings of trees, which stand in no library, are in WrongCalls.antt.
+-- rule for times, three count blocks in another way, four tell the wrong text or place, three go by another rule for pairs, one
+-- takes a torn append for a damaged one, and four repair other volumes or leave another length. Wrong listings of trees are in
+-- WrongCalls.antt.
 --
 -- What a wrong library answers is what ours does, but for the calls named. Proved in proofs/Wrong.antt.
 use Rattle.std.specs.Prelude.{ℕ, suc, ◌+◌, ◌-◌, Bool, true, false, not, cond, ◌&&◌, ◌||◌, List, [], ◌++◌, eqb, length}

@@ -1,5 +1,7 @@
 // What becomes of a volume that is written: a line about it, and a file if one is asked for.
 use printing::{print_pair, print_refusal, print_word};
+use std::fs::OpenFile;
+use std::io::Write;
 use std::rt::Runtime;
 use std::{env, fs, io};
 use volume::{Accepted, Rejected, Verdict};
@@ -18,9 +20,16 @@ fn print_refused(rt: &impl Print, v: Rejected) -> io::Result<()> {
     print_word(rt, b" blocks\n")
 }
 
+fn store<R: Runtime>(rt: &R, name: &str, volume: &[u8]) -> io::Result<()> {
+    let mut file = fs::create(rt, name)?;
+    file.write_all(volume)?;
+    // A disk may say only now that it is full.
+    file.sync_all()
+}
+
 // Where a volume can't be saved, the program says so and goes on.
 fn save<R: Runtime>(rt: &R, name: &str, volume: &[u8]) -> io::Result<()> {
-    if let Err(error) = fs::write(rt, name, volume) {
+    if let Err(error) = store(rt, name, volume) {
         eprintln!(rt; "{name}: {error}")?;
     }
     Ok(())
