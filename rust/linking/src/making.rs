@@ -70,8 +70,10 @@ fn newest(path: &Path) -> SystemTime {
     let Ok(entries) = fs::read_dir(path) else {
         return own;
     };
+    // What `rt` keeps of a crate, in its folder `out`, is no source.
     entries
         .flatten()
+        .filter(|entry| entry.file_name() != "out")
         .map(|entry| newest(&entry.path()))
         .fold(own, SystemTime::max)
 }
