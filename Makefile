@@ -76,7 +76,7 @@ demo:
 # sources: cargo's build would do it too, and show nothing meanwhile. HDRFS_ARCHIVE may name a ready one.
 .PHONY: $(HDRFS)
 $(HDRFS):
-	@if [[ -z $${HDRFS_ARCHIVE:-} && ( ! -f $(LIBRARY) || -n $$(find crates crates.txt -name out -prune -o -newer $(LIBRARY) -print -quit) ) ]]; \
+	@if [[ -z $${HDRFS_ARCHIVE:-} && ( ! -f $(LIBRARY) || -n $$(find crates crates.txt -name out -prune -o \( -type f -o -path 'crates/*/*' \) -newer $(LIBRARY) -print -quit) ) ]]; \
 	then mkdir -p target; $(call prove,target/library.log,exchange); tools/build exchange > target/build.log 2>&1 || { cat target/build.log; exit 1; }; fi
 	@cargo build --release --offline --quiet --manifest-path rust/Cargo.toml --package hdrfs-command
 

@@ -61,16 +61,17 @@ fn is_made_since(archive: &Path, changed: SystemTime) -> bool {
     made.is_ok_and(|made| changed <= made)
 }
 
-/// When the newest file at or under a path was last changed. What cannot be read counts as very
-/// old: `rt` will say more about it than we could.
+/// When the newest file at or under a path was last changed, but for what `rt` keeps of a crate in its folder `out`. What
+/// cannot be read counts as very old: `rt` will say more about it than we could.
 fn newest(path: &Path) -> SystemTime {
-    let own = fs::metadata(path)
-        .and_then(|about| about.modified())
-        .unwrap_or(SystemTime::UNIX_EPOCH);
+    // The time of a crate's own folder says only when `out` was made.
+    let own = match fs::metadata(path).and_then(|about| about.modified()) {
+        Ok(changed) if !path.join("out").is_dir() => changed,
+        _ => SystemTime::UNIX_EPOCH,
+    };
     let Ok(entries) = fs::read_dir(path) else {
         return own;
     };
-    // What `rt` keeps of a crate, in its folder `out`, is no source.
     entries
         .flatten()
         .filter(|entry| entry.file_name() != "out")
