@@ -239,11 +239,11 @@ fn fetches_refused<'a>(
 }
 
 // A position and a range of what stands first in a volume.
-fn both_lookups(rt: &(impl Print + Eprint + Files), name: &str, lengths: &[u8]) -> io::Result<()> {
+fn both_lookups(rt: &(impl Print + Eprint + Files), name: &[u8], lengths: &[u8]) -> io::Result<()> {
     let mut buf = [0u8; 256];
     let n = load(rt, name, &mut buf)?;
     let volume = &buf[..n];
-    print_word(rt, name.as_bytes())?;
+    print_word(rt, name)?;
     print_pair(rt, b", ", lengths.len() as u64)?;
     print_word(rt, b" bytes of lengths:\n")?;
     position_row(rt, volume, 80, lengths, 0)?;
@@ -254,32 +254,32 @@ fn both_lookups(rt: &(impl Print + Eprint + Files), name: &str, lengths: &[u8]) 
 // Which text of the block is the first that is bad, and where. The lengths come before that and the kind of the block after it.
 fn bad_texts(rt: &(impl Print + Eprint + Files)) -> io::Result<()> {
     let lengths = [104u8, 0, 0, 0, 0, 0, 0, 0];
-    both_lookups(rt, "link_bad.vol", &lengths)?;
-    both_lookups(rt, "link_bad.vol", &[0u8; 9])?;
-    both_lookups(rt, "target_bad.vol", &lengths)?;
-    both_lookups(rt, "new_path_bad.vol", &lengths)?;
+    both_lookups(rt, b"link_bad.vol", &lengths)?;
+    both_lookups(rt, b"link_bad.vol", &[0u8; 9])?;
+    both_lookups(rt, b"target_bad.vol", &lengths)?;
+    both_lookups(rt, b"new_path_bad.vol", &lengths)?;
     Ok(())
 }
 
 // Bytes that are no text, and refusals before that of a text: a wrong checksum, and a table, which no lookup is made at.
 fn no_bad_texts(rt: &(impl Print + Eprint + Files)) -> io::Result<()> {
     let lengths = [104u8, 0, 0, 0, 0, 0, 0, 0];
-    both_lookups(rt, "xattr_value_not_text.vol", &lengths)?;
-    both_lookups(rt, "folder_with_byte_ff.vol", &lengths)?;
-    both_lookups(rt, "link_bad_with_wrong_sum.vol", &lengths)?;
-    both_lookups(rt, "two_names_bad.vol", &lengths)?;
+    both_lookups(rt, b"xattr_value_not_text.vol", &lengths)?;
+    both_lookups(rt, b"folder_with_byte_ff.vol", &lengths)?;
+    both_lookups(rt, b"link_bad_with_wrong_sum.vol", &lengths)?;
+    both_lookups(rt, b"two_names_bad.vol", &lengths)?;
     Ok(())
 }
 
 fn main(rt: HostRuntime) -> io::Result<()> {
     let mut first = [0u8; 2048];
-    let n = load(&rt, "gauge.vol", &mut first)?;
+    let n = load(&rt, b"gauge.vol", &mut first)?;
     let mut second = [0u8; 256];
-    let m = load(&rt, "later.vol", &mut second)?;
+    let m = load(&rt, b"later.vol", &mut second)?;
     let mut third = [0u8; 256];
-    let k = load(&rt, "v.vol", &mut third)?;
+    let k = load(&rt, b"v.vol", &mut third)?;
     let mut fourth = [0u8; 256];
-    let l = load(&rt, "wrong_magic.vol", &mut fourth)?;
+    let l = load(&rt, b"wrong_magic.vol", &mut fourth)?;
     stored_and_holes(&rt, &first[..n])?;
     repeated_block(&rt, &first[..n])?;
     refused(&rt, &first[..n])?;

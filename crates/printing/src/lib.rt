@@ -8,9 +8,9 @@ ghost use Rattle.std.specs.Prelude.{◌≡◌, length};
 ghost use Rattle.std.specs.Io.{ReadsAtMost};
 
 use refusal::{NOT_TEXT, Refusal};
-use std::fs;
 use std::io::{self, Read, Write};
 use std::rt::Files;
+use std::{fs, str};
 
 // Internal: prints a word.
 pub fn print_word(rt: &impl Print, word: &[u8]) -> io::Result<()> {
@@ -55,18 +55,23 @@ pub fn read_full<R: Read>(reader: &mut R, buf: &mut [u8]) -> io::Result<usize>
     Ok(done)
 }
 
-// Internal: reads a file into the buffer, and answers how many bytes it has; a file that can't be opened has none.
-pub fn load<R: Files + Eprint>(rt: &R, name: &str, buf: &mut [u8]) -> io::Result<usize>
+// Internal: reads a file into the buffer, and answers how many bytes it has; a file that can't be opened has none, and one whose name
+// is not UTF-8 can't be.
+pub fn load<R: Files + Eprint>(rt: &R, name: &[u8], buf: &mut [u8]) -> io::Result<usize>
     ensures within { ReadsAtMost result buf.new }
     ensures kept_length { length buf.new ≡ length buf.old }
 {
-    match fs::open(rt, name) {
+    let Ok(path) = str::from_utf8(name) else {
+        eprintln!(rt; "a file whose name is not UTF-8 can't be opened")?;
+        return Ok(0);
+    };
+    match fs::open(rt, path) {
         Ok(file) => {
             let mut file = file;
             read_full(&mut file, buf)
         }
         Err(error) => {
-            eprintln!(rt; "{name}: {error}")?;
+            eprintln!(rt; "{path}: {error}")?;
             Ok(0)
         }
     }

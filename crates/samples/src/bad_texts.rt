@@ -7,10 +7,10 @@ use std::io;
 use std::rt::Files;
 use volume::LastTime;
 
-fn row(rt: &(impl Print + Eprint + Files), name: &str) -> io::Result<()> {
+fn row(rt: &(impl Print + Eprint + Files), name: &[u8]) -> io::Result<()> {
     let mut buf = [0u8; 65536];
     let n = load(rt, name, &mut buf)?;
-    print_word(rt, name.as_bytes())?;
+    print_word(rt, name)?;
     print_word(rt, b", read:\n")?;
     from_header(rt, &buf[..n])
 }
@@ -18,7 +18,7 @@ fn row(rt: &(impl Print + Eprint + Files), name: &str) -> io::Result<()> {
 // A link at time 1, read at several bookmarks: its place comes before its name, its time and its number after that.
 fn places(rt: &(impl Print + Eprint + Files)) -> io::Result<()> {
     let mut buf = [0u8; 256];
-    let n = load(rt, "link_bad.vol", &mut buf)?;
+    let n = load(rt, b"link_bad.vol", &mut buf)?;
     let volume = &buf[..n];
     print_word(rt, b"link_bad.vol, read:\n")?;
     readings(rt, volume, 80, false, LastTime::Never, 0)?;
@@ -29,30 +29,30 @@ fn places(rt: &(impl Print + Eprint + Files)) -> io::Result<()> {
 
 // Blocks with one text. The value of an attribute is none.
 fn one_text(rt: &(impl Print + Eprint + Files)) -> io::Result<()> {
-    row(rt, "unlink_bad.vol")?;
-    row(rt, "xattr_bad.vol")?;
-    row(rt, "xattr_value_not_text.vol")?;
-    row(rt, "removed_xattr_bad.vol")?;
-    row(rt, "target_bad.vol")
+    row(rt, b"unlink_bad.vol")?;
+    row(rt, b"xattr_bad.vol")?;
+    row(rt, b"xattr_value_not_text.vol")?;
+    row(rt, b"removed_xattr_bad.vol")?;
+    row(rt, b"target_bad.vol")
 }
 
 // Blocks with several texts, of which the first that is bad is told, and paths of 40,010 bytes.
 fn several_texts(rt: &(impl Print + Eprint + Files)) -> io::Result<()> {
-    row(rt, "new_path_bad.vol")?;
-    row(rt, "both_paths_bad.vol")?;
-    row(rt, "long_old_path_bad.vol")?;
-    row(rt, "long_new_path_bad.vol")?;
-    row(rt, "two_names_bad.vol")
+    row(rt, b"new_path_bad.vol")?;
+    row(rt, b"both_paths_bad.vol")?;
+    row(rt, b"long_old_path_bad.vol")?;
+    row(rt, b"long_new_path_bad.vol")?;
+    row(rt, b"two_names_bad.vol")
 }
 
 // A text comes before a link that stands twice, an inode's size and the time. The bytes of a folder are no text, and the checksum
 // comes first.
 fn orders(rt: &(impl Print + Eprint + Files)) -> io::Result<()> {
-    row(rt, "link_twice_bad.vol")?;
-    row(rt, "target_bad_of_another_size.vol")?;
-    row(rt, "link_bad_at_lower_time.vol")?;
-    row(rt, "folder_with_byte_ff.vol")?;
-    row(rt, "link_bad_with_wrong_sum.vol")
+    row(rt, b"link_twice_bad.vol")?;
+    row(rt, b"target_bad_of_another_size.vol")?;
+    row(rt, b"link_bad_at_lower_time.vol")?;
+    row(rt, b"folder_with_byte_ff.vol")?;
+    row(rt, b"link_bad_with_wrong_sum.vol")
 }
 
 pub fn all(rt: &(impl Print + Eprint + Files)) -> io::Result<()> {

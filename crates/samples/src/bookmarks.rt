@@ -36,7 +36,7 @@ pub fn from_header(rt: &impl Print, volume: &[u8]) -> io::Result<()> {
 // A volume with a block of every kind: its table is block 0.
 fn every_kind(rt: &(impl Print + Eprint + Files)) -> io::Result<()> {
     let mut buf = [0u8; 1024];
-    let n = load(rt, "all_kinds.vol", &mut buf)?;
+    let n = load(rt, b"all_kinds.vol", &mut buf)?;
     print_word(rt, b"all_kinds.vol, read:\n")?;
     from_header(rt, &buf[..n])
 }
@@ -45,7 +45,7 @@ fn every_kind(rt: &(impl Print + Eprint + Files)) -> io::Result<()> {
 // the bookmark that was made up.
 fn times(rt: &(impl Print + Eprint + Files)) -> io::Result<()> {
     let mut buf = [0u8; 256];
-    let n = load(rt, "earlier_time.vol", &mut buf)?;
+    let n = load(rt, b"earlier_time.vol", &mut buf)?;
     let volume = &buf[..n];
     print_word(rt, b"earlier_time.vol, read:\n")?;
     readings(rt, volume, 80, true, LastTime::Never, 0)?;
@@ -57,7 +57,7 @@ fn times(rt: &(impl Print + Eprint + Files)) -> io::Result<()> {
 // block, and is found at every number.
 fn numbers(rt: &(impl Print + Eprint + Files)) -> io::Result<()> {
     let mut buf = [0u8; 256];
-    let n = load(rt, "v.vol", &mut buf)?;
+    let n = load(rt, b"v.vol", &mut buf)?;
     let volume = &buf[..n];
     print_word(rt, b"v.vol, read:\n")?;
     readings(rt, volume, 80, false, LastTime::Never, MOST_BLOCKS)?;
@@ -72,7 +72,7 @@ fn numbers(rt: &(impl Print + Eprint + Files)) -> io::Result<()> {
 // V with a checksum that is wrong.
 fn damaged(rt: &(impl Print + Eprint + Files)) -> io::Result<()> {
     let mut buf = [0u8; 256];
-    let n = load(rt, "wrong_block_sum.vol", &mut buf)?;
+    let n = load(rt, b"wrong_block_sum.vol", &mut buf)?;
     print_word(rt, b"wrong_block_sum.vol, read:\n")?;
     readings(rt, &buf[..n], 80, false, LastTime::At(8), MOST_BLOCKS)
 }

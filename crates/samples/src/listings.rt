@@ -12,23 +12,23 @@ pub fn too_long(rt: &(impl Print + Eprint + Files)) -> io::Result<()> {
 }
 
 // The room is as long as the text must be: a longer text is refused and a shorter one leaves zeros, and both show.
-fn row(rt: &(impl Print + Eprint + Files), name: &str, text: &mut [u8]) -> io::Result<()> {
+fn row(rt: &(impl Print + Eprint + Files), name: &[u8], text: &mut [u8]) -> io::Result<()> {
     let mut volume = [0u8; 256];
     let n = load(rt, name, &mut volume)?;
     listing::list(&volume[..n], text);
-    print_word(rt, name.as_bytes())?;
+    print_word(rt, name)?;
     print_word(rt, b", listed:\n")?;
     print_word(rt, text)
 }
 
 pub fn times(rt: &(impl Print + Eprint + Files)) -> io::Result<()> {
-    row(rt, "same_time.vol", &mut [0u8; 51])?;
-    row(rt, "lower_time.vol", &mut [0u8; 43])?;
+    row(rt, b"same_time.vol", &mut [0u8; 51])?;
+    row(rt, b"lower_time.vol", &mut [0u8; 43])?;
     Ok(())
 }
 
 // The last line says no more than the number and the offset, of a text that is not UTF-8 too.
 pub fn not_text(rt: &(impl Print + Eprint + Files)) -> io::Result<()> {
-    row(rt, "new_path_bad.vol", &mut [0u8; 34])?;
+    row(rt, b"new_path_bad.vol", &mut [0u8; 34])?;
     Ok(())
 }

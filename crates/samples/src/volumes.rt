@@ -29,17 +29,17 @@ fn print_verdict(rt: &impl Print, volume: &[u8]) -> io::Result<()> {
 }
 
 // The row of one volume, read from the file of this name.
-fn row(rt: &(impl Print + Eprint + Files), name: &str) -> io::Result<()> {
+fn row(rt: &(impl Print + Eprint + Files), name: &[u8]) -> io::Result<()> {
     let mut buf = [0u8; 65536];
     let n = load(rt, name, &mut buf)?;
-    print_word(rt, name.as_bytes())?;
+    print_word(rt, name)?;
     print_verdict(rt, &buf[..n])
 }
 
 fn argument<R: Runtime>(rt: &R, i: usize) -> io::Result<()> {
     for (place, name) in env::args(rt)?.enumerate() {
         if place == i {
-            row(rt, name.as_str())?;
+            row(rt, name.as_bytes())?;
         }
     }
     Ok(())

@@ -47,7 +47,7 @@ pub fn header(
 }
 
 // Whether the volume that was written is the one made by other means.
-pub fn compare(rt: &(impl Print + Eprint + Files), written: &[u8], name: &str) -> io::Result<()> {
+pub fn compare(rt: &(impl Print + Eprint + Files), written: &[u8], name: &[u8]) -> io::Result<()> {
     let mut made = [0u8; 1024];
     let n = load(rt, name, &mut made)?;
     if number::same_bytes(written, &made[..n]) {
@@ -55,6 +55,6 @@ pub fn compare(rt: &(impl Print + Eprint + Files), written: &[u8], name: &str) -
     } else {
         print_word(rt, b"written: other bytes than ")?;
     }
-    print_word(rt, name.as_bytes())?;
+    print_word(rt, name)?;
     print_word(rt, b"\n")
 }

@@ -276,14 +276,14 @@ fn bookmarks(rt: &impl Print, buf: &mut [u8; 659]) -> io::Result<()> {
 }
 
 fn compare_and_list(rt: &(impl Print + Eprint + Files), written: &[u8; 659]) -> io::Result<()> {
-    compare(rt, written, "all_kinds.vol")?;
+    compare(rt, written, b"all_kinds.vol")?;
     let mut text = [0u8; 125];
     listing::list(written, &mut text);
     print_word(rt, &text)
 }
 
 fn compare_two(rt: &(impl Print + Eprint + Files), written: &[u8; 128]) -> io::Result<()> {
-    compare(rt, written, "same_time.vol")?;
+    compare(rt, written, b"same_time.vol")?;
     Ok(())
 }
 
@@ -350,7 +350,7 @@ fn not_counted(rt: &impl Print, buf: &mut [u8; 128]) -> io::Result<()> {
 // so that the comparison would show it if one had changed the buffer.
 fn last_number(rt: &(impl Print + Eprint + Files)) -> io::Result<()> {
     let mut buf = [0u8; 128];
-    load(rt, "v.vol", &mut buf)?;
+    load(rt, b"v.vol", &mut buf)?;
     print_word(rt, b"v.vol, appended to:\n")?;
     let mark = after_v(false, MOST_BLOCKS - 1);
     let full = at(rt, b"data", mark, mark.append_data(&mut buf, 7, b"1,5"))?;
