@@ -4,7 +4,7 @@ use mathlib.Core.Path.{◌≡◌, refl}
 use mathlib.Core.Bool.{Bool, not, cond}
 use mathlib.Core.List.{List, [], ◌∷◌, ◌++◌}
 use Prim.Native.Nat.{ℕ, ◌+◌, ◌-◌, ◌≤◌}
-use lib.Dec.{T}
+use lib.Dec.{T, ltb}
 use lib.ListN.{length}
 use borrow.Author.Tests.{le-ltb}
 use Rattle.number.proofs.Parts.{part_span}
@@ -18,17 +18,22 @@ use Rattle.block.specs.Fields.{fixed_length, body_length}
 use Rattle.block.specs.Order.{fixed_fields_cut, kind_order}
 
 -- a text that is tested after a table without a fault, as the part of the volume between two offsets
-pub text_next : (a : List Check) (volume : List ℕ) (from n : ℕ) {m : ℕ} {r t : Bool} → T (numbered a) → m ≡ first_fault a → m ≡ 0
+pub text_next : (a : List Check) (volume : List ℕ) (from n : ℕ) {r t : Bool} → T (numbered a) → 0 ≡ first_fault a
     → r ≡ is_text (part volume from (from + n - from)) → r ≡ t
     → cond (not t) 10 0 ≡ first_fault (a ++ (check (not (is_text (part volume from n))) 10 ∷ []))
 unfolding first_fault
-text_next a volume from n p e z f h =
-    continued a (check (not (is_text (part volume from n))) 10 ∷ []) p e z (rw (← told (rw part_span at f) h))
+text_next a volume from n p e f h =
+    continued a (check (not (is_text (part volume from n))) 10 ∷ []) p e refl (rw (← told (rw part_span at f) h))
 
--- the table of a kind once the fixed fields are there
+-- a table once the fixed fields, which end at `from`, are there
+pub bytes_there : (volume : List ℕ) (from : ℕ) (others : List Check) {m : ℕ} → from ≤ length volume → m ≡ first_fault others
+    → m ≡ first_fault (check (ltb (length volume) from) 2 ∷ others)
+bytes_there volume from others h e = decided (miss (le-ltb (length volume) from h) (rest e))
+
+-- the same of a kind
 pub fields_there : (kind : Kind) (volume : List ℕ) (offset : ℕ) (others : List Check) {m : ℕ} → offset + fixed_length kind ≤ length volume
     → m ≡ first_fault others → m ≡ first_fault (check (fixed_fields_cut kind volume offset) 2 ∷ others)
-fields_there kind volume offset others h e = decided (miss (le-ltb (length volume) (offset + fixed_length kind) h) (rest e))
+fields_there kind volume offset others h e = bytes_there volume (offset + fixed_length kind) others h e
 
 -- unlink blocks have the layout of link blocks
 pub unlink_as_link : (volume : List ℕ) (offset : ℕ)

@@ -1,5 +1,4 @@
 pub mod Faults
-pub mod Places
 pub mod Passed
 pub mod Ids
 pub mod Standing

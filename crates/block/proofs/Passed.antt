@@ -1,7 +1,7 @@
 -- What a block in which no fault is found has passed, by name. The positions of the checks in their tables stand on this page and
 -- on no other. Assumes nothing.
 use Prim.Native.Nat.{ℕ, ◌+◌, ◌%◌, ◌≤◌, ◌<◌}
-use mathlib.Core.Path.{◌≡◌, sym, ap, ◌∙◌}
+use mathlib.Core.Path.{◌≡◌, sym, ap}
 use mathlib.Core.Bool.{Bool, false, not}
 use mathlib.Core.List.{List, ◌++◌}
 use mathlib.Core.Logic.{◌↔◌}
@@ -21,7 +21,7 @@ use Rattle.extent.specs.inner.Tests.{some_broken, some_overlap}
 use Rattle.links.proofs.Tables.{LinksPass}
 use Rattle.block.specs.Fields.{id_at, kind_at, fixed_length, field_at, body_end, first_part, second_part, bytes_of, type_at, size_at, rest_at}
 use Rattle.block.specs.Order.{volume_limit, unknown_id, wrong_place, too_long, checksum_wrong, rest_order, named_order, kind_order, block_order}
-use Rattle.block.specs.inner.Parts.{sealed_order}
+use Rattle.block.specs.inner.Parts.{sealed_order, text_order}
 
 pub text : (bytes : List ℕ) → (not (is_text bytes) ≡ false) ↔ WellFormed bytes
 text bytes = (λ e. (text_iff_well_formed bytes).0 (not-false _ e), λ w. ap not ((text_iff_well_formed bytes).1 w))
@@ -235,9 +235,14 @@ module _ (volume : List ℕ) (offset : ℕ) (due : Bool) where
 -- The parts of a table that functions answer.
 
 -- where no fault is found in the end of a block and in what comes after it, the block ends within the volume
-pub end_whole : (volume : List ℕ) (offset end : ℕ) (others : List Check) {m : ℕ} → T (numbered others)
-    → m ≡ first_fault (sealed_order volume offset end ++ others) → m ≡ 0 → end + 4 ≤ length volume
-end_whole volume offset end others n e z = ltb-false _ _ (passed 0 (sealed_order volume offset end ++ others) n (sym e ∙ z))
+pub end_whole : (volume : List ℕ) (offset end : ℕ) (others : List Check) → T (numbered others)
+    → 0 ≡ first_fault (sealed_order volume offset end ++ others) → end + 4 ≤ length volume
+end_whole volume offset end others n e = ltb-false _ _ (passed 0 (sealed_order volume offset end ++ others) n (sym e))
+
+-- the same of a block whose variable parts begin with a text
+pub text_whole : (volume : List ℕ) (offset from text len : ℕ) → 0 ≡ first_fault (text_order volume offset from text len)
+    → from + len + 4 ≤ length volume
+text_whole volume offset from text len e = ltb-false _ _ (passed 1 (text_order volume offset from text len) tt (sym e))
 
 -- Where `decode` is called: no fault is found, and the block is of this kind.
 

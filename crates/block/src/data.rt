@@ -1,25 +1,25 @@
 // Data blocks: ID 1, time 8, n 8, payload n, CRC 4.
 ghost use Rattle.std.specs.Prelude.{◌≡◌, ◌+◌, ◌≤◌, ◌<◌, length};
 ghost use Rattle.format.specs.Blocks.{data_block};
-ghost use Rattle.crc32.specs.inner.Tables.{Lent};
 ghost use Rattle.checks.specs.Checks.{first_fault};
+ghost use Rattle.refusal.specs.Faults.{fault_number};
 ghost use Rattle.block.specs.Order.{kind_order};
 ghost use Rattle.block.specs.inner.Decoded.{block_of};
 ghost use Rattle.block.specs.Fields.{body_end};
 
 use crate::seal::sealed_fault;
 use crate::{Block, DataBlock, Part};
-use refusal::CUT_SHORT;
+use crc32::Tables;
+use refusal::Fault;
 
 // The first fault of the data block at `offset`.
-pub(crate) fn data_fault(tables: &[u32], volume: &[u8], offset: usize) -> u64
-    requires lent { Lent tables.now }
+pub(crate) fn data_fault(tables: Option<&Tables>, volume: &[u8], offset: usize) -> Result<(), Fault>
     requires offset_in_bounds { offset < length volume.now }
-    ensures { result ≡ first_fault (kind_order data_block volume.now offset) }
+    ensures { fault_number result ≡ first_fault (kind_order data_block volume.now offset) }
 {
     let from = offset + 17;
     if volume.len() < from {
-        return CUT_SHORT;
+        return Err(Fault::CutShort);
     }
     let n = number::read_u64(volume, offset + 9);
     sealed_fault(tables, volume, offset, from, n)

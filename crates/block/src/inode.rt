@@ -2,8 +2,8 @@
 ghost use Rattle.std.specs.Prelude.{◌≡◌, false, ◌+◌, ◌≤◌, ◌<◌, ◌++◌, length};
 ghost use Rattle.number.specs.Number.{part};
 ghost use Rattle.format.specs.Blocks.{inode_block, file_type, regular, symbolic_link, other};
-ghost use Rattle.crc32.specs.inner.Tables.{Lent};
 ghost use Rattle.checks.specs.Checks.{first_fault};
+ghost use Rattle.refusal.specs.Faults.{fault_number};
 ghost use Rattle.block.specs.Order.{kind_order, too_long, rest_order};
 ghost use Rattle.block.specs.inner.Decoded.{block_of};
 ghost use Rattle.block.specs.Fields.{body_end};
@@ -11,12 +11,9 @@ ghost use Rattle.block.specs.inner.Parts.{sealed_order};
 
 use crate::seal::sealed_fault;
 use crate::{Block, InodeBlock, Part};
-use refusal::{CUT_SHORT, NOT_TEXT, OVER_LIMIT, RANGES_OVERLAP, RULE_BROKEN};
-
-// File types: the mode divided by 4,096.
-const REGULAR: u16 = 8;
-
-const SYMBOLIC_LINK: u16 = 10;
+use crc32::Tables;
+use format::kind::FileType;
+use refusal::Fault;
 
 const EXTENT_LEN: usize = 57;
 
@@ -30,104 +27,103 @@ const BARE_SIZE: u64 = 70;
 pub fn is_too_long(mode: u16, n: u64) -> bool
     ensures { result ≡ too_long (file_type mode) n }
 {
-    match mode / 4096 {
-        REGULAR => MAX_LIST_LEN < n,
+    match FileType::of(mode) {
+        FileType::Regular => MAX_LIST_LEN < n,
         _ => false,
     }
 }
 
 // The first fault of a regular file's list of extents. The rules of every extent come before any overlap.
-fn list_fault(list: &[u8]) -> u64
+fn list_fault(list: &[u8]) -> Result<(), Fault>
     requires { length list.now ≤ 58368 }
-    ensures { result ≡ first_fault (rest_order regular 0 list.now) }
+    ensures { fault_number result ≡ first_fault (rest_order regular 0 list.now) }
 {
     if list.len() % EXTENT_LEN != 0 {
-        return RULE_BROKEN;
+        return Err(Fault::RuleBroken);
     }
     if extent::some_broken(list) {
-        return RULE_BROKEN;
+        return Err(Fault::RuleBroken);
     }
     if extent::some_overlap(list) {
-        return RANGES_OVERLAP;
+        return Err(Fault::RangesOverlap);
     }
-    0
+    Ok(())
 }
 
 // The first fault of a symbolic link's size and target.
-fn target_fault(size: u64, target: &[u8]) -> u64
-    ensures { result ≡ first_fault (rest_order symbolic_link size target.now) }
+fn target_fault(size: u64, target: &[u8]) -> Result<(), Fault>
+    ensures { fault_number result ≡ first_fault (rest_order symbolic_link size target.now) }
 {
     if !utf8::is_text(target) {
-        return NOT_TEXT;
+        return Err(Fault::NotText);
     }
     if size != BARE_SIZE + target.len() as u64 {
-        return RULE_BROKEN;
+        return Err(Fault::RuleBroken);
     }
-    0
+    Ok(())
 }
 
 // The first fault of any other file's size and n bytes: it has no such bytes, and its size is fixed.
-fn other_fault(size: u64, rest: &[u8]) -> u64
-    ensures { result ≡ first_fault (rest_order other size rest.now) }
+fn other_fault(size: u64, rest: &[u8]) -> Result<(), Fault>
+    ensures { fault_number result ≡ first_fault (rest_order other size rest.now) }
 {
     if rest.len() != 0 {
-        return RULE_BROKEN;
+        return Err(Fault::RuleBroken);
     }
     if size != BARE_SIZE {
-        return RULE_BROKEN;
+        return Err(Fault::RuleBroken);
     }
-    0
+    Ok(())
 }
 
 // Internal: the first fault of an inode's size and n bytes, by file type.
-pub fn rest_fault(mode: u16, size: u64, rest: &[u8]) -> u64
+pub fn rest_fault(mode: u16, size: u64, rest: &[u8]) -> Result<(), Fault>
     requires { too_long (file_type mode) (length rest.now) ≡ false }
-    ensures { result ≡ first_fault (rest_order (file_type mode) size rest.now) }
+    ensures { fault_number result ≡ first_fault (rest_order (file_type mode) size rest.now) }
 {
-    match mode / 4096 {
-        REGULAR => list_fault(rest),
-        SYMBOLIC_LINK => target_fault(size, rest),
-        _ => other_fault(size, rest),
+    match FileType::of(mode) {
+        FileType::Regular => list_fault(rest),
+        FileType::SymbolicLink => target_fault(size, rest),
+        FileType::Other => other_fault(size, rest),
     }
 }
 
 // The first fault in the end of the block at `offset`, whose n bytes begin at `from`, and then in these bytes.
 fn end_fault(
-    tables: &[u32],
+    tables: Option<&Tables>,
     volume: &[u8],
     offset: usize,
     from: usize,
     mode: u16,
     size: u64,
     n: u64,
-) -> u64
-    requires lent { Lent tables.now }
+) -> Result<(), Fault>
     requires offset_le_from { (offset ≤ from) × (from ≤ length volume.now) × (too_long (file_type mode) n ≡ false) }
-    ensures { result ≡ first_fault (sealed_order volume.now offset (from + n)
+    ensures { fault_number result ≡ first_fault (sealed_order volume.now offset (from + n)
         ++ rest_order (file_type mode) size (part volume.now from n)) }
 {
-    let fault = sealed_fault(tables, volume, offset, from, n);
-    if fault != 0 {
-        return fault;
-    }
+    sealed_fault(tables, volume, offset, from, n)?;
     rest_fault(mode, size, &volume[from..from + n as usize])
 }
 
 // The first fault of the inode block at `offset`.
-pub(crate) fn inode_fault(tables: &[u32], volume: &[u8], offset: usize) -> u64
-    requires lent { Lent tables.now }
+pub(crate) fn inode_fault(
+    tables: Option<&Tables>,
+    volume: &[u8],
+    offset: usize,
+) -> Result<(), Fault>
     requires offset_in_bounds { offset < length volume.now }
-    ensures { result ≡ first_fault (kind_order inode_block volume.now offset) }
+    ensures { fault_number result ≡ first_fault (kind_order inode_block volume.now offset) }
 {
     let from = offset + 71;
     if volume.len() < from {
-        return CUT_SHORT;
+        return Err(Fault::CutShort);
     }
     let mode = number::read_u16(volume, offset + 17);
     let size = number::read_u64(volume, offset + 55);
     let n = number::read_u64(volume, offset + 63);
     if is_too_long(mode, n) {
-        return OVER_LIMIT;
+        return Err(Fault::OverLimit);
     }
     end_fault(tables, volume, offset, from, mode, size, n)
 }

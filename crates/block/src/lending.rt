@@ -1,7 +1,4 @@
-// What a caller lends for the checksums: the tables of crc32, or nothing in their place.
-
-// Internal: what a single call lends. Filling the tables would take longer than it saves.
-pub const NO_TABLES: [u32; 0] = [];
+// When a walk over a volume fills the tables of crc32. A single call lends none: to fill them would take longer than they save.
 
 // Internal: the shortest volume for which a walk fills the tables. In a shorter one of small blocks they save less time than
 // filling them takes.

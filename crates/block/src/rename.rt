@@ -1,8 +1,8 @@
 // Rename blocks: ID 1, time 8, n 2, m 2, old path n, new path m, CRC 4.
 ghost use Rattle.std.specs.Prelude.{◌≡◌, ◌+◌, ◌≤◌, ◌<◌, length};
 ghost use Rattle.format.specs.Blocks.{rename_block};
-ghost use Rattle.crc32.specs.inner.Tables.{Lent};
 ghost use Rattle.checks.specs.Checks.{first_fault};
+ghost use Rattle.refusal.specs.Faults.{fault_number};
 ghost use Rattle.block.specs.Order.{kind_order};
 ghost use Rattle.block.specs.inner.Decoded.{block_of};
 ghost use Rattle.block.specs.Fields.{body_end};
@@ -10,38 +10,41 @@ ghost use Rattle.block.specs.inner.Parts.{paths_order};
 
 use crate::text::text_fault;
 use crate::{Block, Part, RenameBlock};
-use refusal::{CUT_SHORT, NOT_TEXT};
+use crc32::Tables;
+use refusal::Fault;
 
-// The first fault in the end of the block at `offset`, whose two paths of `n` and `m` bytes begin at `from`.
-fn paths_fault(tables: &[u32], volume: &[u8], offset: usize, from: usize, n: usize, m: usize) -> u64
-    requires lent { Lent tables.now }
-    requires offset_le_from { (offset ≤ from) × (from ≤ length volume.now) × (n < 65536) × (m < 65536) }
-    ensures { result ≡ first_fault (paths_order volume.now offset from n m) }
+// The first fault of the block at `offset`, whose fixed fields end at `from` and whose two paths of `n` and `m` bytes come after them.
+fn paths_fault(
+    tables: Option<&Tables>,
+    volume: &[u8],
+    offset: usize,
+    from: usize,
+    n: usize,
+    m: usize,
+) -> Result<(), Fault>
+    requires offset_le_from { (offset ≤ from) × (n < 65536) × (m < 65536) }
+    ensures { fault_number result ≡ first_fault (paths_order volume.now offset from n m) }
 {
-    let fault = text_fault(tables, volume, offset, from, n, n + m);
-    if fault != 0 {
-        return fault;
-    }
+    text_fault(tables, volume, offset, from, n, n + m)?;
     let middle = from + n;
     if !utf8::is_text(&volume[middle..middle + m]) {
-        return NOT_TEXT;
+        return Err(Fault::NotText);
     }
-    0
+    Ok(())
 }
 
 // The first fault of the rename block at `offset`.
-pub(crate) fn rename_fault(tables: &[u32], volume: &[u8], offset: usize) -> u64
-    requires lent { Lent tables.now }
+pub(crate) fn rename_fault(
+    tables: Option<&Tables>,
+    volume: &[u8],
+    offset: usize,
+) -> Result<(), Fault>
     requires offset_in_bounds { offset < length volume.now }
-    ensures { result ≡ first_fault (kind_order rename_block volume.now offset) }
+    ensures { fault_number result ≡ first_fault (kind_order rename_block volume.now offset) }
 {
-    let from = offset + 13;
-    if volume.len() < from {
-        return CUT_SHORT;
-    }
     let n = number::read_u16(volume, offset + 9) as usize;
     let m = number::read_u16(volume, offset + 11) as usize;
-    paths_fault(tables, volume, offset, from, n, m)
+    paths_fault(tables, volume, offset, offset + 13, n, m)
 }
 
 // The rename block at `offset`.

@@ -1,8 +1,8 @@
 // Link tables: ID 1, link count 8, the links, CRC 4.
 ghost use Rattle.std.specs.Prelude.{◌≡◌, ◌+◌, ◌≤◌, ◌<◌, ◌++◌, length, drop};
 ghost use Rattle.format.specs.Blocks.{link_table};
-ghost use Rattle.crc32.specs.inner.Tables.{Lent};
 ghost use Rattle.checks.specs.Checks.{first_fault};
+ghost use Rattle.refusal.specs.Faults.{fault_number};
 ghost use Rattle.block.specs.Order.{volume_limit, kind_order};
 ghost use Rattle.block.specs.inner.Decoded.{block_of};
 ghost use Rattle.block.specs.Fields.{body_end, field_at};
@@ -12,7 +12,8 @@ ghost use Rattle.block.specs.inner.Parts.{sealed_order, links_order};
 use crate::limits::MAX_LINKS;
 use crate::seal::sealed_fault;
 use crate::{Block, Part, TableBlock};
-use refusal::{CUT_SHORT, LINK_TWICE, NOT_TEXT, OVER_LIMIT};
+use crc32::Tables;
+use refusal::Fault;
 
 // How many bytes the links from `from` on take.
 fn len_of_links(volume: &[u8], from: usize, count: u64) -> usize
@@ -23,48 +24,53 @@ fn len_of_links(volume: &[u8], from: usize, count: u64) -> usize
 }
 
 // The first fault of `count` links that lie within the bytes.
-fn links_fault(list: &[u8], count: u64) -> u64
+fn links_fault(list: &[u8], count: u64) -> Result<(), Fault>
     requires { (count ≤ 4096) × (link_start list.now count ≤ length list.now) × (length list.now ≤ volume_limit) }
-    ensures { result ≡ first_fault (links_order list.now count) }
+    ensures { fault_number result ≡ first_fault (links_order list.now count) }
 {
     if links::some_name_not_text(list, count) {
-        return NOT_TEXT;
+        return Err(Fault::NotText);
     }
     if links::some_link_twice(list, count) {
-        return LINK_TWICE;
+        return Err(Fault::LinkTwice);
     }
-    0
+    Ok(())
 }
 
 // The first fault in the end of the table at `offset`, whose links begin at `from`, and then in these links.
-fn end_fault(tables: &[u32], volume: &[u8], offset: usize, from: usize, count: u64) -> u64
-    requires lent { Lent tables.now }
+fn end_fault(
+    tables: Option<&Tables>,
+    volume: &[u8],
+    offset: usize,
+    from: usize,
+    count: u64,
+) -> Result<(), Fault>
     requires offset_le_from { (offset ≤ from) × (from ≤ length volume.now) × (length volume.now ≤ volume_limit) × (count ≤ 4096) }
-    ensures { result ≡ first_fault (
+    ensures { fault_number result ≡ first_fault (
         sealed_order volume.now offset (from + link_start (drop from volume.now) count)
         ++ links_order (drop from volume.now) count) }
 {
     let len = len_of_links(volume, from, count);
-    let fault = sealed_fault(tables, volume, offset, from, len as u64);
-    if fault != 0 {
-        return fault;
-    }
+    sealed_fault(tables, volume, offset, from, len as u64)?;
     links_fault(&volume[from..], count)
 }
 
 // The first fault of the link table at `offset`.
-pub(crate) fn table_fault(tables: &[u32], volume: &[u8], offset: usize) -> u64
-    requires lent { Lent tables.now }
+pub(crate) fn table_fault(
+    tables: Option<&Tables>,
+    volume: &[u8],
+    offset: usize,
+) -> Result<(), Fault>
     requires offset_in_bounds { (offset < length volume.now) × (length volume.now ≤ volume_limit) }
-    ensures { result ≡ first_fault (kind_order link_table volume.now offset) }
+    ensures { fault_number result ≡ first_fault (kind_order link_table volume.now offset) }
 {
     let from = offset + 9;
     if volume.len() < from {
-        return CUT_SHORT;
+        return Err(Fault::CutShort);
     }
     let count = number::read_u64(volume, offset + 1);
     if MAX_LINKS < count {
-        return OVER_LIMIT;
+        return Err(Fault::OverLimit);
     }
     end_fault(tables, volume, offset, from, count)
 }

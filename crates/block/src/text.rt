@@ -1,32 +1,32 @@
 // Blocks whose variable parts begin with a text.
-ghost use Rattle.std.specs.Prelude.{◌≡◌, ◌≤◌, length};
-ghost use Rattle.crc32.specs.inner.Tables.{Lent};
+ghost use Rattle.std.specs.Prelude.{◌≡◌, ◌≤◌};
 ghost use Rattle.checks.specs.Checks.{first_fault};
+ghost use Rattle.refusal.specs.Faults.{fault_number};
 ghost use Rattle.block.specs.inner.Parts.{text_order};
 
 use crate::seal::sealed_fault;
-use refusal::NOT_TEXT;
+use crc32::Tables;
+use refusal::Fault;
 
-// The first fault in the end of the block at `offset`, whose variable parts are `len` bytes from `from` on, of which
-// the first `text` are a text.
+// The first fault of the block at `offset`, whose fixed fields end at `from` and whose variable parts are the `len` bytes after them,
+// of which the first `text` are a text.
 pub(crate) fn text_fault(
-    tables: &[u32],
+    tables: Option<&Tables>,
     volume: &[u8],
     offset: usize,
     from: usize,
     text: usize,
     len: usize,
-) -> u64
-    requires lent { Lent tables.now }
-    requires offset_le_from { (offset ≤ from) × (from ≤ length volume.now) × (text ≤ len) }
-    ensures { result ≡ first_fault (text_order volume.now offset from text len) }
+) -> Result<(), Fault>
+    requires offset_le_from { (offset ≤ from) × (text ≤ len) }
+    ensures { fault_number result ≡ first_fault (text_order volume.now offset from text len) }
 {
-    let fault = sealed_fault(tables, volume, offset, from, len as u64);
-    if fault != 0 {
-        return fault;
+    if volume.len() < from {
+        return Err(Fault::CutShort);
     }
+    sealed_fault(tables, volume, offset, from, len as u64)?;
     if !utf8::is_text(&volume[from..from + text]) {
-        return NOT_TEXT;
+        return Err(Fault::NotText);
     }
-    0
+    Ok(())
 }

@@ -1,43 +1,42 @@
 // Xattr blocks: ID 1, time 8, inode 8, n 1, m 2, name n, value m, CRC 4; removed ones have no m and no value.
 ghost use Rattle.std.specs.Prelude.{◌≡◌, ◌+◌, ◌≤◌, ◌<◌, length};
 ghost use Rattle.format.specs.Blocks.{xattr_block, removed_xattr_block};
-ghost use Rattle.crc32.specs.inner.Tables.{Lent};
 ghost use Rattle.checks.specs.Checks.{first_fault};
+ghost use Rattle.refusal.specs.Faults.{fault_number};
 ghost use Rattle.block.specs.Order.{kind_order};
 ghost use Rattle.block.specs.inner.Decoded.{block_of};
 ghost use Rattle.block.specs.Fields.{body_end};
 
 use crate::text::text_fault;
 use crate::{Block, Part, RemovedXattrBlock, XattrBlock};
-use refusal::CUT_SHORT;
+use crc32::Tables;
+use refusal::Fault;
 
 // The first fault of the xattr block at `offset`. Its value is raw bytes.
-pub(crate) fn xattr_fault(tables: &[u32], volume: &[u8], offset: usize) -> u64
-    requires lent { Lent tables.now }
+pub(crate) fn xattr_fault(
+    tables: Option<&Tables>,
+    volume: &[u8],
+    offset: usize,
+) -> Result<(), Fault>
     requires offset_in_bounds { offset < length volume.now }
-    ensures { result ≡ first_fault (kind_order xattr_block volume.now offset) }
+    ensures { fault_number result ≡ first_fault (kind_order xattr_block volume.now offset) }
 {
-    let from = offset + 20;
-    if volume.len() < from {
-        return CUT_SHORT;
-    }
     let n = number::read_u8(volume, offset + 17) as usize;
     let m = number::read_u16(volume, offset + 18) as usize;
-    text_fault(tables, volume, offset, from, n, n + m)
+    text_fault(tables, volume, offset, offset + 20, n, n + m)
 }
 
 // The first fault of the removed xattr block at `offset`.
-pub(crate) fn removed_xattr_fault(tables: &[u32], volume: &[u8], offset: usize) -> u64
-    requires lent { Lent tables.now }
+pub(crate) fn removed_xattr_fault(
+    tables: Option<&Tables>,
+    volume: &[u8],
+    offset: usize,
+) -> Result<(), Fault>
     requires offset_in_bounds { offset < length volume.now }
-    ensures { result ≡ first_fault (kind_order removed_xattr_block volume.now offset) }
+    ensures { fault_number result ≡ first_fault (kind_order removed_xattr_block volume.now offset) }
 {
-    let from = offset + 18;
-    if volume.len() < from {
-        return CUT_SHORT;
-    }
     let n = number::read_u8(volume, offset + 17) as usize;
-    text_fault(tables, volume, offset, from, n, n)
+    text_fault(tables, volume, offset, offset + 18, n, n)
 }
 
 // The xattr block at `offset`.

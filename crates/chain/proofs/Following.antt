@@ -1,4 +1,5 @@
 -- The test of two headers, from what its comparisons were given, and the three equations that it stands for. Assumes nothing.
+use Rattle.std.specs.Prelude.{Ok}
 use Prim.Native.Nat.{ℕ, suc}
 use Prim.Native.String.{String}
 use mathlib.Core.Path.{◌≡◌}
@@ -19,7 +20,7 @@ module _ (volume : List ℕ) (sound : header_fault volume ≡ 0) where
   handed name = rw sound
 
   -- and a volume that has one is not too long for a digest
-  pub digested : (whole_answer volume).digest ≡ sha256 volume
+  pub digested : whole_answer volume ≡ Ok (sha256 volume)
   unfolding whole_answer
   digested = rw (le-ltb _ _ (header_passed volume sound).small)
 

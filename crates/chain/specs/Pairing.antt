@@ -1,15 +1,13 @@
 -- What the check of a pair of volumes answers: the first volume's refusal, else the second's, else whether the second follows the first.
-use Rattle.std.specs.Prelude.{ℕ, suc, Bool, cond, ◌&&◌, List, eqb}
+use Rattle.std.specs.Prelude.{ℕ, suc, Bool, cond, ◌&&◌, List, eqb, Ok, Err}
 use Rattle.number.specs.inner.Same.{same_bytes}
-use Rattle.refusal.specs.Refusal.{refusal_of}
-use Rattle.refusal.specs.declared.Refusal.{Refusal}
+use Rattle.refusal.specs.Refusal.{refusal_of, Refusal}
 use Rattle.fips180.specs.Hash.{sha256}
 use Rattle.volume.specs.Heading.{header_bytes, sequence_of}
 use Rattle.volume.specs.inner.Check.{check_answer}
-use Rattle.volume.specs.declared.Verdict.{Verdict}
-use Rattle.volume.specs.declared.Verdict.TheVariants as verdict
-use Rattle.chain.specs.declared.Pairing.{Pairing}
-use Rattle.chain.specs.declared.Pairing.TheVariants.{Follows, FirstRefused, SecondRefused, DoesNotFollow}
+use Rattle.volume.specs.Answers.{Verdict}
+use Rattle.chain.specs.declared.PairFault.TheVariants.{FirstRefused, SecondRefused, DoesNotFollow}
+use Rattle.chain.specs.Answers.{Pairing}
 
 -- equal file system IDs, the second number one above the first, and the second's previous hash the digest of the whole first volume
 unfoldable pub follows : (first second : List ℕ) → Bool
@@ -19,16 +17,16 @@ follows first second =
 
 -- the answer, by the verdicts on the two volumes and whether the second follows the first: the first's refusal, the second's, 23
 unfoldable pub paired : (first second : Verdict) (following : Bool) → Pairing
-paired (verdict.Refused rejected) second following = FirstRefused rejected
-paired (verdict.Accepted earlier) (verdict.Refused rejected) following = SecondRefused rejected
-paired (verdict.Accepted earlier) (verdict.Accepted later) following = cond following Follows DoesNotFollow
+paired (Err rejected) second following = Err (FirstRefused rejected)
+paired (Ok earlier) (Err rejected) following = Err (SecondRefused rejected)
+paired (Ok earlier) (Ok later) following = cond following (Ok tt) (Err DoesNotFollow)
 
 unfoldable pub pair_answer : (first second : List ℕ) → Pairing
 pair_answer first second = paired (check_answer first) (check_answer second) (follows first second)
 
 -- the refusal, by the list of numbers: 0 where there is none, a volume's own, or 23
 abbrev pub refusal_in : Pairing → Refusal
-refusal_in Follows = refusal_of 0
-refusal_in (FirstRefused rejected) = rejected.refusal
-refusal_in (SecondRefused rejected) = rejected.refusal
-refusal_in DoesNotFollow = refusal_of 23
+refusal_in (Ok tt) = refusal_of 0
+refusal_in (Err (FirstRefused rejected)) = rejected.refusal
+refusal_in (Err (SecondRefused rejected)) = rejected.refusal
+refusal_in (Err DoesNotFollow) = refusal_of 23

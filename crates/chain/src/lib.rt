@@ -1,22 +1,21 @@
 // Whether a volume follows another: the check of a neighbouring pair of a set.
 //
-// Public calls: `pair`, and `refusal_of` for the number of its answer. Both volumes are checked whole before their headers are compared.
+// Public call: `pair`, whose error becomes a refusal by `From`. Both volumes are checked whole before their headers are compared.
 // Callers: exchange, for whoever keeps copies of sets and wants to know that no volume is missing or from another set.
 #![tactic(auto)]
 
-ghost use Rattle.std.specs.Prelude.{◌≡◌, suc, eqb};
+ghost use Rattle.std.specs.Prelude.{◌≡◌, suc, eqb, Err};
 ghost use Rattle.volume.specs.Heading.{header_fault, sequence_of};
 ghost use Rattle.chain.specs.Pairing.{follows, pair_answer, refusal_in};
 
-use refusal::{DOES_NOT_FOLLOW, Refusal, refuse};
+use refusal::{Fault, Refusal};
+use volume::Rejected;
 use volume::checking::check;
 use volume::heading::{file_system_id, previous_hash};
-use volume::{Rejected, Verdict};
 
-// The answer for a pair of volumes. A volume that is refused comes with what the check of it alone tells.
-#[derive(Clone, Copy)]
-pub enum Pairing {
-    Follows,
+// Why a pair of volumes is refused. A volume that is refused comes with what the check of it alone tells.
+#[derive(Clone, Copy, Debug)]
+pub enum PairFault {
     FirstRefused(Rejected),
     SecondRefused(Rejected),
     DoesNotFollow,
@@ -45,37 +44,41 @@ fn is_followed(first: &[u8], second: &[u8], number: u64, next: u64) -> bool
     if !is_next(number, next) {
         return false;
     }
-    let digest = sha256::sha256(first).digest;
-    number::same_bytes(previous_hash(second), &digest)
+    match sha256::sha256(first) {
+        Ok(digest) => number::same_bytes(previous_hash(second), &digest),
+        // A volume with a sound header is not too long for a digest.
+        Err(_) => false,
+    }
 }
 
 // Checks a pair of volumes: both are accepted and the second follows the first, or why not.
-pub fn pair(first: &[u8], second: &[u8]) -> Pairing
+pub fn pair(first: &[u8], second: &[u8]) -> Result<(), PairFault>
     ensures { result ≡ pair_answer first.now second.now }
 {
     match check(first) {
-        Verdict::Refused(rejected) => Pairing::FirstRefused(rejected),
-        Verdict::Accepted(earlier) => match check(second) {
-            Verdict::Refused(rejected) => Pairing::SecondRefused(rejected),
-            Verdict::Accepted(later) => {
+        Err(rejected) => Err(PairFault::FirstRefused(rejected)),
+        Ok(earlier) => match check(second) {
+            Err(rejected) => Err(PairFault::SecondRefused(rejected)),
+            Ok(later) => {
                 if is_followed(first, second, earlier.sequence, later.sequence) {
-                    Pairing::Follows
+                    Ok(())
                 } else {
-                    Pairing::DoesNotFollow
+                    Err(PairFault::DoesNotFollow)
                 }
             }
         },
     }
 }
 
-// Why a pair is refused; the number is 0 where the second volume follows the first.
-pub fn refusal_of(pairing: Pairing) -> Refusal
-    ensures { result ≡ refusal_in pairing }
-{
-    match pairing {
-        Pairing::Follows => refuse(0),
-        Pairing::FirstRefused(rejected) => rejected.refusal,
-        Pairing::SecondRefused(rejected) => rejected.refusal,
-        Pairing::DoesNotFollow => refuse(DOES_NOT_FOLLOW),
+// A pair is refused as the volume at fault is, or since the second does not follow the first.
+impl From<PairFault> for Refusal {
+    ghost from_gives = { λ fault refusal. refusal ≡ refusal_in (Err fault) };
+
+    fn from(fault: PairFault) -> Refusal {
+        match fault {
+            PairFault::FirstRefused(rejected) => rejected.refusal,
+            PairFault::SecondRefused(rejected) => rejected.refusal,
+            PairFault::DoesNotFollow => Fault::DoesNotFollow.into(),
+        }
     }
 }

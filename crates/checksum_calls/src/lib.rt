@@ -4,9 +4,8 @@
 // for many checksums, as a walk over blocks does.
 #![tactic(auto)]
 
-ghost use Rattle.std.specs.Prelude.{◌≡◌, ◌/◌, ◌<◌, length};
+ghost use Rattle.std.specs.Prelude.{◌≡◌, ◌/◌, length};
 ghost use Rattle.crc32.specs.Crc.{crc};
-ghost use Rattle.crc32.specs.inner.Tables.{crc_rows};
 ghost use Rattle.checksum_calls.specs.Parts.{sum_of_parts};
 
 // Internal: the checksum of the bytes.
@@ -22,28 +21,11 @@ pub extern "C" fn checksum_alone(bytes: &[u8]) -> u32
 pub extern "C" fn checksum_lent(bytes: &[u8]) -> u32
     ensures { result ≡ crc bytes.now }
 {
-    let mut tables = [0u32; 4096];
-    crc32::fill(&mut tables);
-    crc32::crc32_by(&tables, bytes)
+    crc32::crc32_by(Some(&crc32::Tables::new()), bytes)
 }
 
-// The checksums of the whole parts of a size, added (exclusive or).
-fn parts_by(tables: &[u32], bytes: &[u8], size: usize) -> u32
-    requires { (tables.now ≡ crc_rows) × (0 < size) }
-    ensures { result ≡ sum_of_parts bytes.now size (length bytes.now / size) }
-{
-    let count = bytes.len() / size;
-    let mut sum: u32 = 0;
-    let mut k: usize = 0;
-    while k < count {
-        let from = k * size;
-        sum = sum ^ crc32::crc32_by(tables, &bytes[from..from + size]);
-        k += 1;
-    }
-    sum
-}
-
-// Internal: the same with tables filled once. What is left after the last whole part is not counted; parts of size 0 are none.
+// Internal: the checksums of the whole parts of a size, added (exclusive or), with tables filled once. What is left after
+// the last whole part is not counted; parts of size 0 are none.
 #[unsafe(no_mangle)]
 pub extern "C" fn checksum_of_parts(bytes: &[u8], size: usize) -> u32
     ensures { result ≡ sum_of_parts bytes.now size (length bytes.now / size) }
@@ -51,7 +33,8 @@ pub extern "C" fn checksum_of_parts(bytes: &[u8], size: usize) -> u32
     if size == 0 {
         return 0;
     }
-    let mut tables = [0u32; 4096];
-    crc32::fill(&mut tables);
-    parts_by(&tables, bytes, size)
+    let tables = crc32::Tables::new();
+    bytes
+        .chunks_exact(size)
+        .fold(0, |sum, part| sum ^ crc32::crc32_by(Some(&tables), part))
 }

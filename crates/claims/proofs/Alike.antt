@@ -1,5 +1,6 @@
 -- What is read of a volume depends on the bytes that are read: a header or a block is read in every volume that has its bytes in the same
 -- place. Assumes nothing.
+use Rattle.std.specs.Prelude.{Some, Ok}
 use Prim.Native.Nat.{ℕ, ◌+◌, ◌-◌, ◌≤◌}
 use mathlib.Core.Path.{◌≡◌, sym, ap, ◌∙◌}
 use mathlib.Core.List.{List, ◌++◌}
@@ -16,7 +17,6 @@ use Rattle.volume.specs.Heading.{sequence_of, header_fault, header_answer}
 use Rattle.volume.specs.Reading.{read_answer}
 use Rattle.volume.specs.declared.Bookmark.{Bookmark}
 use Rattle.volume.specs.declared.Found.{Found}
-use Rattle.volume.specs.declared.ReadAnswer.TheVariants as read
 use Rattle.volume.proofs.Steps.{found_at, found_there, read_further}
 use Rattle.volume.proofs.HeaderImage.{HeaderStands, header_sound, HeaderShown, header_complete}
 use Rattle.volume.proofs.OneCall.{HandedOut, read_sound, Hands, read_complete}
@@ -25,7 +25,7 @@ use Rattle.claims.specs.Demand3.{StillRead}
 
 module _ (volume other : List ℕ) (mark : Bookmark) (found : Found) (b : Bytes volume) (small : length other ≤ volume_limit) where
   -- a block that is read in a volume is read in another that has its bytes
-  pub read_alike : read_answer volume mark ≡ read.Found found
+  pub read_alike : read_answer volume mark ≡ Ok (Some found)
       → part other mark.offset (found.next.offset - mark.offset) ≡ part volume mark.offset (found.next.offset - mark.offset)
       → StillRead ours volume other mark found
   read_alike e alike =
@@ -47,13 +47,13 @@ module _ (volume other : List ℕ) (mark : Bookmark) (found : Found) (b : Bytes 
       let number : mark.number ≡ found.number = sym p.number in
       let next : (found_at other mark).next ≡ found.next = h.next ∙ sym p.next in
       record {
-        same_place = h.answer ∙ ap read.Found (λ i. record { block = same i; number = number i; next = next i });
+        same_place = h.answer ∙ ap (λ f. Ok (Some f)) (λ i. record { block = same i; number = number i; next = next i });
         same_reading = ap (shown other) (sym same) ∙ h.same;
       }
 
 -- so it is read in every longer volume
 pub still_read : (volume more : List ℕ) (mark : Bookmark) (found : Found) → Bytes volume → length (volume ++ more) ≤ volume_limit
-    → read_answer volume mark ≡ read.Found found → StillRead ours volume (volume ++ more) mark found
+    → read_answer volume mark ≡ Ok (Some found) → StillRead ours volume (volume ++ more) mark found
 still_read volume more mark found b small e =
     let further = read_further volume mark found e in
     read_alike volume (volume ++ more) mark found b small e
@@ -61,8 +61,8 @@ still_read volume more mark found b small e =
 
 -- and in every beginning that it lies in
 pub read_in_beginning : (volume more : List ℕ) (mark : Bookmark) (found : Found) → Bytes (volume ++ more) → length volume ≤ volume_limit
-    → found.next.offset ≤ length volume → read_answer (volume ++ more) mark ≡ read.Found found
-    → read_answer volume mark ≡ read.Found found
+    → found.next.offset ≤ length volume → read_answer (volume ++ more) mark ≡ Ok (Some found)
+    → read_answer volume mark ≡ Ok (Some found)
 read_in_beginning volume more mark found b small within e =
     let further = read_further (volume ++ more) mark found e in
     (read_alike (volume ++ more) volume mark found b small e

@@ -1,4 +1,5 @@
 -- A reading at any bookmark: what one call of the reader tells, and what it answers where a block stands. Assumes nothing.
+use Rattle.std.specs.Prelude.{Some, Ok}
 use Prim.Native.Nat.{ℕ, ◌+◌}
 use mathlib.Core.Path.{◌≡◌, refl, sym, ap, ◌∙◌, subst}
 use mathlib.Core.Bool.{Bool, true, false}
@@ -18,7 +19,6 @@ use Rattle.block.proofs.Ids.{is_table, table_iff}
 use Rattle.volume.specs.Reading.{read_answer}
 use Rattle.volume.specs.declared.Bookmark.{Bookmark}
 use Rattle.volume.specs.declared.Found.{Found}
-use Rattle.volume.specs.declared.ReadAnswer.TheVariants as read
 use Rattle.volume.proofs.Steps.{found_at, found_there}
 use Rattle.volume.proofs.OneCall.{Allowed, after, HandedOut, read_sound, Hands, read_complete, end_sound, end_complete}
 use Rattle.claims.specs.Library.{ours}
@@ -70,7 +70,7 @@ module _ (volume : List ℕ) (mark : Bookmark) (b : Bytes volume) where
       let kind : Kind = kind_at volume mark.offset in
       rw (kind_shown kind volume mark.offset) (places kind volume mark.offset)
 
-  handed : (found : Found) → read_answer volume mark ≡ read.Found found → HandedClaim ours volume mark found
+  handed : (found : Found) → read_answer volume mark ≡ Ok (Some found) → HandedClaim ours volume mark found
   handed found e =
       let p : HandedOut volume mark found = read_sound volume mark found b e in
       let block : Block = shown volume found.block in
@@ -92,7 +92,7 @@ module _ (volume : List ℕ) (mark : Bookmark) (b : Bytes volume) where
       }
 
   stands_handed : (block : Block) → Stands volume mark block
-      → (found : Found) × (read_answer volume mark ≡ read.Found found) × (shown volume found.block ≡ block)
+      → (found : Found) × (read_answer volume mark ≡ Ok (Some found)) × (shown volume found.block ≡ block)
   stands_handed block s =
       let allowed : Allowed mark block
       = record {

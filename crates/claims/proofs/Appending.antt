@@ -1,5 +1,6 @@
 -- One append: it is accepted exactly if the rules allow the block at the bookmark, with room and within the size;
 -- the image then stands at the bookmark. And a header written. Assumes nothing.
+use Rattle.std.specs.Prelude.{Ok, Err}
 use Prim.Native.Nat.{ℕ, ◌+◌, ◌≤◌}
 use mathlib.Core.Path.{◌≡◌, refl, sym, ap}
 use mathlib.Core.Bool.{Bool, true, false, not, cond}
@@ -14,7 +15,7 @@ use Rattle.checks.proofs.Laws.{decided, none-append}
 use Rattle.checks.proofs.Tests.{eq_neb}
 use Rattle.refusal.specs.Refusal.{refusal_of, refusal_with}
 use Rattle.texts.specs.Texts.{texts}
-use Rattle.refusal.specs.declared.Refusal.{Refusal}
+use Rattle.refusal.specs.Refusal.{Refusal}
 use Rattle.format.specs.Blocks.{Block, image}
 use Rattle.format.specs.Headers.{Header, header_image, HeaderRules}
 use Rattle.format.specs.Readings.{time_of}
@@ -27,8 +28,7 @@ use Rattle.volume.specs.Heading.{first_mark}
 use Rattle.volume.specs.Writing.{place_order, append_fault, append_answer, append_buffer}
 use Rattle.volume.specs.Writing.{SizedHeader, write_fault, write_answer, write_buffer}
 use Rattle.volume.specs.declared.Bookmark.{Bookmark}
-use Rattle.volume.specs.declared.WriteAnswer.{WriteAnswer}
-use Rattle.volume.specs.declared.WriteAnswer.TheVariants.{Next, Refused}
+use Rattle.volume.specs.Answers.{WriteAnswer}
 use Rattle.volume.proofs.Passed.{append-passed, write_passed}
 use Rattle.volume.proofs.HeaderImage.{hash_rule, hash_right}
 use Rattle.volume.proofs.OneCall.{Allowed, after, follows, may_follow_lem, right_place, place_right}
@@ -71,11 +71,11 @@ module _ (room : ℕ) (mark : Bookmark) (block : Block) where
 pub data Appended (buffer : List ℕ) (mark : Bookmark) (block : Block) : WriteAnswer → List ℕ → Type 0 where
   accepted :
       Admitted (length buffer) mark block
-      → Appended buffer mark block (Next (after mark block)) (put buffer mark.offset (image block))
+      → Appended buffer mark block (Ok (after mark block)) (put buffer mark.offset (image block))
   refused :
       (refusal : Refusal)
       → (Admitted (length buffer) mark block → ⊥)
-      → Appended buffer mark block (Refused refusal) buffer
+      → Appended buffer mark block (Err refusal) buffer
 
 pub appended : (buffer : List ℕ) (mark : Bookmark) (block : Block) → Sized block
     → Appended buffer mark block (append_answer (length buffer) mark block) (append_buffer buffer mark block)
@@ -84,26 +84,26 @@ appended buffer mark block s = go (eqb (append_fault (length buffer) mark block)
   where
     go : (sound : Bool) → eqb (append_fault (length buffer) mark block) 0 ≡ sound
         → Appended buffer mark block
-        (cond sound (Next (after mark block)) (Refused (refusal_with (append_fault (length buffer) mark block) (texts block))))
+        (cond sound (Ok (after mark block)) (Err (refusal_with (append_fault (length buffer) mark block) (texts block))))
         (cond sound (put buffer mark.offset (image block)) buffer)
     go true e = accepted (append-sound (length buffer) mark block s (eqb-true _ _ e))
     go false e = refused _ (λ a. eqb-false _ _ e (append-complete (length buffer) mark block a))
 
 -- an append that answers a bookmark has no fault, and the bookmark is the one after the block
-pub append-accepted : (room : ℕ) (mark next : Bookmark) (block : Block) → append_answer room mark block ≡ Next next
+pub append-accepted : (room : ℕ) (mark next : Bookmark) (block : Block) → append_answer room mark block ≡ Ok next
     → (append_fault room mark block ≡ 0) × (after mark block ≡ next)
 unfolding append_answer
 append-accepted room mark next block = go (eqb (append_fault room mark block) 0) refl
   where
     go : (sound : Bool) → eqb (append_fault room mark block) 0 ≡ sound
-        → cond sound (Next (after mark block)) (Refused (refusal_with (append_fault room mark block) (texts block))) ≡ Next next
+        → cond sound (Ok (after mark block)) (Err (refusal_with (append_fault room mark block) (texts block))) ≡ Ok next
         → (append_fault room mark block ≡ 0) × (after mark block ≡ next)
     go true e q = (eqb-true _ _ e, cc)
     go false e q = let z : ◌≡◌ {A = ℕ} 0 1 = cc in absurd (omega arith)
 
 -- and the same of a block that is known to be admitted
 pub admitted_appended : (buffer : List ℕ) (mark : Bookmark) (block : Block) → Admitted (length buffer) mark block
-    → (append_answer (length buffer) mark block ≡ Next (after mark block))
+    → (append_answer (length buffer) mark block ≡ Ok (after mark block))
     × (append_buffer buffer mark block ≡ put buffer mark.offset (image block))
 unfolding append_answer append_buffer
 admitted_appended buffer mark block a =
@@ -146,7 +146,7 @@ module _ (room : ℕ) (header : Header) where
 pub record Written (buffer : List ℕ) (header : Header) : Type 0 where
   pub rules : HeaderRules header
   pub room : 80 ≤ length buffer
-  pub answer : write_answer (length buffer) header ≡ Next (first_mark header.sequence)
+  pub answer : write_answer (length buffer) header ≡ Ok (first_mark header.sequence)
   pub holds : write_buffer buffer header ≡ put buffer 0 (header_image header)
 
 pub header_written : (buffer : List ℕ) (header : Header) → HeaderRules header → 80 ≤ length buffer → Written buffer header
@@ -156,12 +156,12 @@ header_written buffer header rules h =
     record { rules = rules; room = h; answer = rw e; holds = rw e }
 
 pub written_header : (buffer : List ℕ) (header : Header) (mark : Bookmark) → SizedHeader header
-    → write_answer (length buffer) header ≡ Next mark → Written buffer header
+    → write_answer (length buffer) header ≡ Ok mark → Written buffer header
 unfolding write_answer
 written_header buffer header mark s = go (eqb (write_fault (length buffer) header) 0) refl
   where
     go : (sound : Bool) → eqb (write_fault (length buffer) header) 0 ≡ sound
-        → cond sound (Next (first_mark header.sequence)) (Refused (refusal_of (write_fault (length buffer) header))) ≡ Next mark
+        → cond sound (Ok (first_mark header.sequence)) (Err (refusal_of (write_fault (length buffer) header))) ≡ Ok mark
         → Written buffer header
     go true e q =
         let p = write_sound (length buffer) header s (eqb-true _ _ e) in

@@ -13,7 +13,7 @@ use Rattle.format.specs.Blocks.{Block, image}
 use Rattle.format.specs.Readings.{Reading}
 use Rattle.request.specs.Asking.{Sized}
 use Rattle.volume.specs.declared.Bookmark.{Bookmark}
-use Rattle.volume.specs.declared.WriteAnswer.{WriteAnswer}
+use Rattle.volume.specs.Answers.{WriteAnswer}
 use Rattle.volume.proofs.OneCall.{after}
 use Rattle.claims.specs.Library.{ours}
 use Rattle.claims.specs.Demand3.{Outcome, onward, answered_first, appends, extended, Judged, none_left, accepted, refused}

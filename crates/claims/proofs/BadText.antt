@@ -1,4 +1,5 @@
 -- A refusal 10 is given where a check of a text is at fault, and then one of the block's texts is bad. Assumes nothing.
+use Rattle.std.specs.Prelude.{Ok, Err}
 use Prim.Native.Nat.{ℕ, ◌+◌, ◌≤◌}
 use mathlib.Core.Path.{◌≡◌, refl, sym, ap, subst, ◌∙◌}
 use mathlib.Core.Bool.{Bool, true, false, cond}
@@ -15,7 +16,7 @@ use Rattle.checks.proofs.Laws.{gives, given, not_given}
 use Rattle.checks.proofs.Passed.{Passed, reached, stays}
 use Rattle.refusal.specs.Refusal.{refusal_of, refusal_at, refusal_with}
 use Rattle.refusal.specs.inner.FirstBad.{first_bad}
-use Rattle.refusal.specs.declared.Refusal.{Refusal}
+use Rattle.refusal.specs.Refusal.{Refusal}
 use Rattle.refusal.proofs.FirstBad.{some_bad_first}
 use Rattle.format.specs.Blocks.{Kind, inode_block, link_block, unlink_block, xattr_block, removed_xattr_block, data_block, rename_block, link_table}
 use Rattle.format.specs.Blocks.{id_of, link_list, TableFields, Block, Table, kind_of, image}
@@ -39,13 +40,9 @@ use Rattle.volume.specs.Checking.{CheckedFrom, accepted_at_the_end, refused_at_a
 use Rattle.volume.specs.Writing.{place_order, append_fault, append_answer, write_order, write_fault, write_answer}
 use Rattle.volume.specs.declared.Bookmark.{Bookmark}
 use Rattle.volume.specs.declared.Rejected.{Rejected}
-use Rattle.volume.specs.declared.HeaderAnswer.{HeaderAnswer}
-use Rattle.volume.specs.declared.HeaderAnswer.TheVariants as head
-use Rattle.volume.specs.declared.ReadAnswer.{ReadAnswer}
-use Rattle.volume.specs.declared.ReadAnswer.TheVariants as read
-use Rattle.volume.specs.declared.Verdict.{Verdict}
-use Rattle.volume.specs.declared.Verdict.TheVariants as verdict
-use Rattle.volume.specs.declared.WriteAnswer.TheVariants as write
+use Rattle.volume.specs.Answers.{HeaderAnswer}
+use Rattle.volume.specs.Answers.{ReadAnswer}
+use Rattle.volume.specs.Answers.{Verdict}
 use Rattle.volume.proofs.Steps.{refusal_at as atMark, Answers, ends, finds, refuses, answers}
 use Rattle.volume.proofs.HeaderImage.{HeaderAnswers, accepts, rejects, header_answers}
 use Rattle.volume.proofs.Checked.{checked}
@@ -53,11 +50,8 @@ use Rattle.volume.proofs.OneCall.{after}
 use Rattle.lookup.specs.Lookup.{lengths_wrong, not_file, extents_order, lookup_order, lookup_fault, runs_fault}
 use Rattle.lookup.proofs.Refusals.{position_refusal, runs_refusal}
 use Rattle.lookup.specs.inner.Answers.{position_answer, runs_answer}
-use Rattle.lookup.specs.declared.PositionAnswer.TheVariants as place
-use Rattle.lookup.specs.declared.RunsAnswer.TheVariants as runs
 use Rattle.listing.specs.Listing.{list_answer}
 use Rattle.listing.specs.inner.Text.{listing}
-use Rattle.listing.specs.declared.ListAnswer.TheVariants as list
 use Rattle.claims.specs.Library.{ours}
 use Rattle.claims.specs.BadText.{Says, a_bad_text, nothing, BadIn, ImageAt, BadAt, BadNowhere, BadTextClaim}
 use Rattle.claims.proofs.AnyBookmark.{kind_shown}
@@ -173,22 +167,22 @@ module _ (volume : List ℕ) {Bad : (text start : ℕ) → Type 0} where
   unfolding header_fault
   header_fault_says = nothing (not_given 10 (header_order volume) (omega arith) refl refl)
 
-  header_says : (refusal : Refusal) → header_answer volume ≡ head.Refused refusal → Says Bad refusal
+  header_says : (refusal : Refusal) → header_answer volume ≡ Err refusal → Says Bad refusal
   header_says refusal = go (header_answers volume)
     where
-      go : {a : HeaderAnswer} → HeaderAnswers volume a → a ≡ head.Refused refusal → Says Bad refusal
+      go : {a : HeaderAnswer} → HeaderAnswers volume a → a ≡ Err refusal → Says Bad refusal
       go (accepts f) q = let z : ◌≡◌ {A = ℕ} 0 1 = cc in absurd (omega arith)
       go (rejects f) q = let same : refusal_of (header_fault volume) ≡ refusal = cc in subst (Says Bad) same header_fault_says
 
 -- The calls on a block in a volume.
 
 module _ (volume : List ℕ) (b : Bytes volume) where
-  read_says : (mark : Bookmark) (refusal : Refusal) → read_answer volume mark ≡ read.Refused refusal
+  read_says : (mark : Bookmark) (refusal : Refusal) → read_answer volume mark ≡ Err refusal
       → Says (BadAt volume mark.offset) refusal
   unfolding read_fault
   read_says mark refusal = go (answers volume mark)
     where
-      go : {a : ReadAnswer} → Answers volume mark a → a ≡ read.Refused refusal → Says (BadAt volume mark.offset) refusal
+      go : {a : ReadAnswer} → Answers volume mark a → a ≡ Err refusal → Says (BadAt volume mark.offset) refusal
       go (ends p) q = let z : ◌≡◌ {A = ℕ} 0 1 = cc in absurd (omega arith)
       go (finds p f) q = let z : ◌≡◌ {A = ℕ} 0 1 = cc in absurd (omega arith)
       go (refuses p f) q =
@@ -198,7 +192,7 @@ module _ (volume : List ℕ) (b : Bytes volume) where
 
   -- the check refuses as the reading that it ends with, or as the header
   from_says : {sequence : ℕ} {mark : Bookmark} {answer : Verdict} → CheckedFrom volume sequence mark answer
-      → (rejected : Rejected) → answer ≡ verdict.Refused rejected → Says (BadAt volume rejected.offset) rejected.refusal
+      → (rejected : Rejected) → answer ≡ Err rejected → Says (BadAt volume rejected.offset) rejected.refusal
   from_says (accepted_at_the_end e) rejected q = let z : ◌≡◌ {A = ℕ} 0 1 = cc in absurd (omega arith)
   from_says {mark = mark} (refused_at_a_block {refusal = refusal} e) rejected q =
       let same : record { refusal = refusal; offset = mark.offset; blocks = mark.number } ≡ rejected = cc in
@@ -206,7 +200,7 @@ module _ (volume : List ℕ) (b : Bytes volume) where
   from_says (after_a_block e later) rejected q = from_says later rejected q
 
   checked_says : {answer : Verdict} → Checked volume answer
-      → (rejected : Rejected) → answer ≡ verdict.Refused rejected → Says (BadAt volume rejected.offset) rejected.refusal
+      → (rejected : Rejected) → answer ≡ Err rejected → Says (BadAt volume rejected.offset) rejected.refusal
   checked_says (refused_at_the_header {refusal = refusal} e) rejected q =
       let same : record { refusal = refusal; offset = 0; blocks = 0 } ≡ rejected = cc in
       subst (λ (r : Rejected). Says (BadAt volume r.offset) r.refusal) same (header_says volume refusal e)
@@ -225,7 +219,7 @@ module _ (volume : List ℕ) (b : Bytes volume) where
       bad_at volume offset b false file refl own
 
   position_says : (offset : ℕ) (lengths : List ℕ) (position : ℕ) (refusal : Refusal)
-      → position_answer volume offset lengths position ≡ place.Refused refusal → Says (BadAt volume offset) refusal
+      → position_answer volume offset lengths position ≡ Err refusal → Says (BadAt volume offset) refusal
   unfolding lookup_fault
   position_says offset lengths position refusal e =
       subst (Says (BadAt volume offset)) (position_refusal volume offset lengths position refusal e)
@@ -233,7 +227,7 @@ module _ (volume : List ℕ) (b : Bytes volume) where
       (λ f. lookup_bad offset lengths [] refl (rw (append-nil (lookup_order volume offset lengths)) f)))
 
   runs_says : (offset : ℕ) (lengths : List ℕ) (from to room : ℕ) (refusal : Refusal)
-      → runs_answer volume offset lengths from to room ≡ runs.Refused refusal → Says (BadAt volume offset) refusal
+      → runs_answer volume offset lengths from to room ≡ Err refusal → Says (BadAt volume offset) refusal
   unfolding runs_fault
   runs_says offset lengths from to room refusal e =
       subst (Says (BadAt volume offset)) (runs_refusal volume offset lengths from to room refusal e)
@@ -251,34 +245,34 @@ append-bad room mark block e =
     some_bad_first (texts block) (sym (request_texts block) ∙ given 10 (request_order block) (omega arith) own)
 
 append-says : (room : ℕ) (mark : Bookmark) (block : Block) (refusal : Refusal)
-    → append_answer room mark block ≡ write.Refused refusal → Says (BadIn block) refusal
+    → append_answer room mark block ≡ Err refusal → Says (BadIn block) refusal
 unfolding append_answer
 append-says room mark block refusal = go (eqb (append_fault room mark block) 0)
   where
     go : (sound : Bool)
-        → cond sound (write.Next (after mark block)) (write.Refused (refusal_with (append_fault room mark block) (texts block))) ≡ write.Refused refusal
+        → cond sound (Ok (after mark block)) (Err (refusal_with (append_fault room mark block) (texts block))) ≡ Err refusal
         → Says (BadIn block) refusal
     go true e = let z : ◌≡◌ {A = ℕ} 0 1 = cc in absurd (omega arith)
     go false e =
         let same : refusal_with (append_fault room mark block) (texts block) ≡ refusal = cc in
         subst (Says (BadIn block)) same (says (append_fault room mark block) (texts block) (append-bad room mark block))
 
-write_says : (room : ℕ) (header : Header) (refusal : Refusal) → write_answer room header ≡ write.Refused refusal → Says BadNowhere refusal
+write_says : (room : ℕ) (header : Header) (refusal : Refusal) → write_answer room header ≡ Err refusal → Says BadNowhere refusal
 unfolding write_answer write_fault
 write_says room header refusal = go (eqb (write_fault room header) 0)
   where
-    go : (sound : Bool) → cond sound (write.Next (first_mark header.sequence)) (write.Refused (refusal_of (write_fault room header))) ≡ write.Refused refusal
+    go : (sound : Bool) → cond sound (Ok (first_mark header.sequence)) (Err (refusal_of (write_fault room header))) ≡ Err refusal
         → Says BadNowhere refusal
     go true e = let z : ◌≡◌ {A = ℕ} 0 1 = cc in absurd (omega arith)
     go false e =
         let same : refusal_of (write_fault room header) ≡ refusal = cc in
         subst (Says BadNowhere) same (nothing (not_given 10 (write_order room header) (omega arith) refl refl))
 
-list_says : (room : ℕ) (volume : List ℕ) (refusal : Refusal) → ours.list room volume ≡ list.Refused refusal → Says BadNowhere refusal
+list_says : (room : ℕ) (volume : List ℕ) (refusal : Refusal) → ours.list room volume ≡ Err refusal → Says BadNowhere refusal
 unfolding list_answer
 list_says room volume refusal = go (leb (length (listing volume)) room)
   where
-    go : (fits : Bool) → cond fits (list.Written (length (listing volume))) (list.Refused (refusal_of 17)) ≡ list.Refused refusal → Says BadNowhere refusal
+    go : (fits : Bool) → cond fits (Ok (length (listing volume))) (Err (refusal_of 17)) ≡ Err refusal → Says BadNowhere refusal
     go true e = let z : ◌≡◌ {A = ℕ} 0 1 = cc in absurd (omega arith)
     go false e = let same : refusal_of 17 ≡ refusal = cc in subst (Says BadNowhere) same (nothing (omega arith))
 

@@ -1,4 +1,5 @@
 -- The check of a pair answers what is so: of accepted volumes the headers that are compared are those of the readings. Assumes nothing.
+use Rattle.std.specs.Prelude.{Ok, Err}
 use Prim.Native.Nat.{ℕ, suc, ◌≤◌}
 use mathlib.Core.Path.{◌≡◌, refl, sym, ap, ◌∙◌, subst}
 use mathlib.Core.Bool.{Bool, true, false, cond}
@@ -9,15 +10,14 @@ use Rattle.number.specs.Number.{Bytes}
 use Rattle.format.specs.Headers.{Header}
 use Rattle.format.specs.Readings.{Reading, ReadingOf}
 use Rattle.volume.specs.inner.Check.{check_answer}
-use Rattle.volume.specs.declared.Verdict.{Verdict}
-use Rattle.volume.specs.declared.Verdict.TheVariants as verdict
+use Rattle.volume.specs.Answers.{Verdict}
 use Rattle.volume.proofs.Passed.{header_passed}
 use Rattle.volume.proofs.HeaderImage.{header_at}
 use Rattle.chain.specs.Pairing.{follows, paired, pair_answer}
-use Rattle.chain.specs.declared.Pairing.{Pairing}
-use Rattle.chain.specs.declared.Pairing.TheVariants as pairing
+use Rattle.chain.specs.Answers.{Pairing}
 use Rattle.chain.proofs.Accepted.{accepted_header}
 use Rattle.chain.proofs.Following.{Following, follows_iff}
+use Rattle.chain.specs.declared.PairFault.TheVariants.{FirstRefused, SecondRefused, DoesNotFollow}
 use Rattle.claims.specs.Library.{ours}
 use Rattle.claims.specs.Demand3Reading.{IsAccepted}
 use Rattle.claims.specs.Chained.{FollowsOn, Says, PairClaim}
@@ -86,26 +86,26 @@ module _ (first second : List ℕ) (b : Bytes first) (c : Bytes second) where
     where
       go : (p q : Verdict) (t : Bool) → check_answer first ≡ p → check_answer second ≡ q → follows first second ≡ t
           → Says ours first second (paired p q t)
-      go (verdict.Refused r) q t e f h = e
-      go (verdict.Accepted x) (verdict.Refused r) t e f h = ((x, e), f)
-      go (verdict.Accepted x) (verdict.Accepted y) true e f h = by_the_readings (x, e) (y, f) ((follows_iff first second).0 h)
-      go (verdict.Accepted x) (verdict.Accepted y) false e f h =
+      go (Err r) q t e f h = e
+      go (Ok x) (Err r) t e f h = ((x, e), f)
+      go (Ok x) (Ok y) true e f h = by_the_readings (x, e) (y, f) ((follows_iff first second).0 h)
+      go (Ok x) (Ok y) false e f h =
           ((x, e), (y, f), λ on. let t = test_true on in let z : ◌≡◌ {A = ℕ} 0 1 = cc in omega arith)
 
   -- and what is so is answered
   answered : (answer : Pairing) → Says ours first second answer → pair_answer first second ≡ answer
   unfolding pair_answer paired
-  answered (pairing.FirstRefused r) e = rw e
-  answered (pairing.SecondRefused r) (p, f) = rw (p.1, f)
-  answered pairing.Follows f =
+  answered (Err (FirstRefused r)) e = rw e
+  answered (Err (SecondRefused r)) (p, f) = rw (p.1, f)
+  answered (Ok tt) f =
       rw (
         (accepted first f.earlier b f.first_within f.first_read).1,
         (accepted second f.later c f.second_within f.second_read).1,
         test_true f,
       )
-  answered pairing.DoesNotFollow (p, q, not_so) = rw (p.1, q.1) (go (follows first second) refl)
+  answered (Err DoesNotFollow) (p, q, not_so) = rw (p.1, q.1) (go (follows first second) refl)
     where
-      go : (t : Bool) → follows first second ≡ t → cond t pairing.Follows pairing.DoesNotFollow ≡ pairing.DoesNotFollow
+      go : (t : Bool) → follows first second ≡ t → cond {A = Pairing} t (Ok tt) (Err DoesNotFollow) ≡ Err DoesNotFollow
       go true h = absurd (not_so (by_the_readings p q ((follows_iff first second).0 h)))
       go false h = refl
 

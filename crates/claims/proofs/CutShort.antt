@@ -1,5 +1,6 @@
 -- A block that was read is refused with 2 once its end is cut off: its fixed fields are cut, or they are as they were, so that they say
 -- how long it is, and the rest is cut. Assumes nothing.
+use Rattle.std.specs.Prelude.{Err}
 use Prim.Native.Nat.{ℕ, suc, ◌+◌, ◌≤◌, ◌<◌}
 use Prim.Native.String.{String}
 use mathlib.Core.Path.{◌≡◌, refl, sym, ap, ap₂, ◌∙◌}
@@ -22,8 +23,7 @@ use Rattle.block.proofs.Ids.{id_known}
 use Rattle.block.proofs.Passed.{kind_passed, block_numbered}
 use Rattle.volume.specs.Reading.{read_fault, next_mark, read_answer}
 use Rattle.volume.specs.declared.Bookmark.{Bookmark}
-use Rattle.volume.specs.declared.ReadAnswer.{ReadAnswer}
-use Rattle.volume.specs.declared.ReadAnswer.TheVariants as read
+use Rattle.volume.specs.Answers.{ReadAnswer}
 use Rattle.volume.proofs.Passed.{ReadPassed, read_passed}
 use Rattle.volume.proofs.Steps.{Answers, ends, finds, refuses, answers, end_read}
 use Rattle.volume.proofs.OneCall.{right_place, end_sound}
@@ -135,11 +135,11 @@ module _ (left off : List ℕ) (mark : Bookmark) (sound : read_fault (left ++ of
       ))
       (λ z. omega arith)
 
-  pub cut_refused : read_answer left mark ≡ read.Refused (refusal_of 2)
+  pub cut_refused : read_answer left mark ≡ Err (refusal_of 2)
   unfolding refusal_with
   cut_refused = go (answers left mark)
     where
-      go : {a : ReadAnswer} → Answers left mark a → a ≡ read.Refused (refusal_of 2)
+      go : {a : ReadAnswer} → Answers left mark a → a ≡ Err (refusal_of 2)
       go (ends p) = let at = (end_sound left mark (sym (end_read left mark p))).offset in absurd (omega arith)
       go (finds p f) = let fault = cut_fault in absurd (omega arith)
       go (refuses p f) = rw (← cut_fault)

@@ -1,6 +1,7 @@
 -- Demand 2 on lookup holds. A lookup that is not refused has passed every check, so the extents of its file are sound and apart: the
 -- keeper of a position is the only one, and the place where it stores the position lies within the volume that it names. Runs are
 -- carried over from the file's list of extents. Assumes nothing.
+use Rattle.std.specs.Prelude.{Ok}
 use Prim.Native.Nat.{ℕ, ◌≤◌, ◌<◌}
 use mathlib.Core.Path.{◌≡◌, refl, sym, ap, ◌∙◌}
 use mathlib.Core.Logic.{◌↔◌, inl, inr, ⊎_elim}
@@ -24,12 +25,12 @@ use Rattle.runs.proofs.Keeper.{keeper_some, one_keeper, some_keeper}
 use Rattle.runs.proofs.Labels.{label_none, label_some}
 use Rattle.lookup.specs.inner.Answers.{place_for, position_answer}
 use Rattle.lookup.specs.Lookup.{lookup_fault}
-use Rattle.lookup.specs.declared.PositionAnswer.TheVariants.{PastEnd}
 use Rattle.lookup.proofs.Clear.{RegularFile, Clear, a_lookup_without_a_fault_is_clear}
 use Rattle.refusal.specs.Refusal.{refusal_with}
 use Rattle.refusal.proofs.Laws.{with_number}
 use Rattle.texts.specs.Texts.{texts_at}
 use Rattle.lookup.proofs.Answers.{position_refused, runs_refused, room_kept}
+use Rattle.lookup.specs.declared.Position.TheVariants.{PastEnd}
 use lib.ListN.{length}
 use Rattle.claims.specs.Library.{ours}
 use Rattle.claims.specs.Demand2.{AllIsThere, IsPlace, in_a_row, in_each_copy, IsHole, IsStored, LookupClaim, Demand2}
@@ -60,7 +61,7 @@ module _ (volume : List ℕ) (offset : ℕ) (lengths : List ℕ) (clear : lookup
   file : RegularFile volume offset
   file = known.opening.file
 
-  past_end : (position : ℕ) → size_at volume offset ≤ position → position_answer volume offset lengths position ≡ PastEnd
+  past_end : (position : ℕ) → size_at volume offset ≤ position → position_answer volume offset lengths position ≡ Ok PastEnd
   unfolding position_answer
   past_end position h = rw (clear, le-ltb position (size_at volume offset) h)
 

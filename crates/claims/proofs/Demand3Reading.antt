@@ -1,4 +1,5 @@
 -- Demand 3 on reading holds: a volume's reading, the reader's calls and the check are each got from the others. Assumes nothing.
+use Rattle.std.specs.Prelude.{Ok}
 use Prim.Native.Nat.{ℕ, ◌+◌, ◌≤◌}
 use mathlib.Core.Path.{◌≡◌, refl, sym, ap, ap₂, ◌∙◌, subst}
 use mathlib.Core.List.{List, ◌++◌}
@@ -16,10 +17,8 @@ use Rattle.volume.specs.inner.Check.{check_answer}
 use Rattle.volume.specs.declared.Bookmark.{Bookmark}
 use Rattle.volume.specs.declared.Accepted.{Accepted}
 use Rattle.volume.specs.declared.HeaderRead.{HeaderRead}
-use Rattle.volume.specs.declared.HeaderAnswer.{HeaderAnswer}
-use Rattle.volume.specs.declared.HeaderAnswer.TheVariants as head
-use Rattle.volume.specs.declared.Verdict.{Verdict}
-use Rattle.volume.specs.declared.Verdict.TheVariants as verdict
+use Rattle.volume.specs.Answers.{HeaderAnswer}
+use Rattle.volume.specs.Answers.{Verdict}
 use Rattle.volume.proofs.HeaderImage.{header_at, HeaderStands, header_sound, length-header, HeaderShown, header_complete}
 use Rattle.volume.proofs.HeaderImage.{given_at, HeaderAnswers, accepts, rejects, header_answers}
 use Rattle.volume.proofs.Checked.{checked, checked_exactly}
@@ -29,17 +28,17 @@ use Rattle.claims.proofs.Walk.{after_all, number_after, few_blocks, runs_volume,
 use Rattle.claims.proofs.Reader.{Read, calls_sound, calls_complete, check_complete, Told, told, calls_same}
 
 -- an accepted header has no fault, and it is answered with what stands in it
-pub header_given : (volume : List ℕ) (given : HeaderRead) → header_answer volume ≡ head.Accepted given
+pub header_given : (volume : List ℕ) (given : HeaderRead) → header_answer volume ≡ Ok given
     → (header_fault volume ≡ 0) × (given_at volume ≡ given)
 header_given volume given = go (header_answers volume)
   where
-    go : {a : HeaderAnswer} → HeaderAnswers volume a → a ≡ head.Accepted given
+    go : {a : HeaderAnswer} → HeaderAnswers volume a → a ≡ Ok given
         → (header_fault volume ≡ 0) × (given_at volume ≡ given)
     go (accepts f) e = (f, cc)
     go (rejects f) e = let z : ◌≡◌ {A = ℕ} 0 1 = cc in absurd (omega arith)
 
 -- so the reader begins at the first bookmark
-pub first_given : (volume : List ℕ) (given : HeaderRead) → header_answer volume ≡ head.Accepted given → first_mark given.sequence ≡ given.next
+pub first_given : (volume : List ℕ) (given : HeaderRead) → header_answer volume ≡ Ok given → first_mark given.sequence ≡ given.next
 first_given volume given e = subst (λ (a : HeaderRead). first_mark a.sequence ≡ a.next) (header_given volume given e).1 refl
 
 -- what the reader gives is the header that stands there, and the blocks of the calls from the bookmark after it
@@ -110,13 +109,13 @@ reading_gives volume reading small r =
 
 -- the check ends where the reader does
 pub check_answers : (volume : List ℕ) (reading : Reading) (end : Bookmark) → ReaderGives ours volume reading end
-    → check_answer volume ≡ verdict.Accepted (record { sequence = reading.header.sequence; end = end })
+    → check_answer volume ≡ Ok (record { sequence = reading.header.sequence; end = end })
 check_answers volume reading end g =
     sym ((checked_exactly volume _).0 (after_the_header g.header (check_complete reading.header.sequence g.blocks)))
 
 -- and its number of blocks is that of the reading
 check_counts : (volume : List ℕ) (reading : Reading) (answer : Accepted) → length volume ≤ 16777216 → ReadingOf volume reading
-    → check_answer volume ≡ verdict.Accepted answer → answer.end.number ≡ length reading.blocks
+    → check_answer volume ≡ Ok answer → answer.end.number ≡ length reading.blocks
 check_counts volume reading answer small r e =
     let end : Bookmark = after_all (first_mark reading.header.sequence) reading.blocks in
     let g : ReaderGives ours volume reading end = reading_gives volume reading small r in
@@ -128,11 +127,11 @@ check_counts volume reading answer small r e =
 accepted_reading : (volume : List ℕ) → Bytes volume → IsAccepted ours volume → HasReading volume
 accepted_reading volume b a = go (checked volume) a.1
   where
-    go : {answer : Verdict} → Checked volume answer → answer ≡ verdict.Accepted a.0 → HasReading volume
+    go : {answer : Verdict} → Checked volume answer → answer ≡ Ok a.0 → HasReading volume
     go (refused_at_the_header e) same = let z : ◌≡◌ {A = ℕ} 0 1 = cc in absurd (omega arith)
     go (after_the_header {header = header} e later) same =
         let h = header_given volume header e in
-        let t : Told volume header.next (verdict.Accepted a.0) = subst (Told volume header.next) same (told later) in (
+        let t : Told volume header.next (Ok a.0) = subst (Told volume header.next) same (told later) in (
           record { header = header_at volume; blocks = t.0 },
           header_and_calls volume t.0 a.0.end b h.0
               (subst (λ g. Calls ours volume g.next.number g.next t.0 a.0.end) (sym h.1) t.1),

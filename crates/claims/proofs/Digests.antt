@@ -3,23 +3,24 @@ use Prim.Native.Nat.{ℕ, ◌+◌, ◌%◌, ◌≤◌, ◌<◌}
 use mathlib.Core.Path.{◌≡◌, refl, sym, ap, ◌∙◌}
 use mathlib.Core.List.{List, [], ◌∷◌, ◌++◌, foldl, foldl-append}
 use native.Mathlib.Omega.{arith}
-use lib.ListN.{length, set, replicate, length-append}
+use lib.ListN.{length, set, length-append}
 use borrow.Author.Tests.{lt-ltb, le-ltb}
 use Rattle.fips180.specs.Hash.{sha256}
 use Rattle.sha256.specs.Feeding.{new, feed_byte, digest_of, feed_answer, finish_answer, whole_answer}
 use Rattle.sha256.specs.declared.Digest.{Digest}
-use Rattle.sha256.specs.declared.Fed.{Fed}
+use Rattle.std.proofs.Common.{Ok, Err}
+use Rattle.refusal.specs.declared.Fault.TheVariants.{TooLarge}
 use Rattle.sha256.proofs.Bytewise.{fed_sum}
 use Rattle.sha256.proofs.Cuts.{digest_of_fed, new_fed}
 use Rattle.claims.specs.Digests.{end_to_end, AllFed, none_left, one_more, DigestClaim}
 
 -- what is not too long is fed, and finished
 accepted : (state : Digest) (part : List ℕ) → state.fed + length part ≤ 16777216
-    → feed_answer state part ≡ record { refusal = 0; state = foldl feed_byte state part }
+    → feed_answer state part ≡ Ok (foldl feed_byte state part)
 unfolding feed_answer
 accepted state part h = rw (le-ltb 16777216 (state.fed + length part) h)
 
-finished : (state : Digest) → state.fed ≤ 16777216 → finish_answer state ≡ record { refusal = 0; digest = digest_of state }
+finished : (state : Digest) → state.fed ≤ 16777216 → finish_answer state ≡ Ok (digest_of state)
 unfolding finish_answer
 finished state h = rw (le-ltb 16777216 state.fed h)
 
@@ -47,54 +48,55 @@ new_within bytes h = rw (new_fed bytes) h
 whatever : (parts : List (List ℕ)) → length (end_to_end parts) ≤ 16777216
     → (last : Digest)
     × AllFed new feed_answer finish_answer whole_answer new parts last
-    × (finish_answer last ≡ record { refusal = 0; digest = sha256 (end_to_end parts) })
+    × (finish_answer last ≡ Ok (sha256 (end_to_end parts)))
 unfolding Ends
 whatever parts h =
     let bytes : List ℕ = end_to_end parts in
     let all = all_fed parts new (new_within bytes h) in
     let fed : (foldl feed_byte new bytes).fed ≡ length bytes = fed_sum new bytes ∙ new_fed bytes in
-    let done : finish_answer (foldl feed_byte new bytes) ≡ record { refusal = 0; digest = digest_of (foldl feed_byte new bytes) }
+    let done : finish_answer (foldl feed_byte new bytes) ≡ Ok (digest_of (foldl feed_byte new bytes))
     = finished (foldl feed_byte new bytes) (omega arith) in (
       all.0,
       all.1,
-      ap finish_answer all.2 ∙ done ∙ ap (λ (d : List ℕ). record { refusal = 0; digest = d }) (digest_of_fed bytes),
+      ap finish_answer all.2 ∙ done ∙ ap (λ (d : List ℕ). Ok d) (digest_of_fed bytes),
     )
 
 both : (state : Digest) (first second : List ℕ) → state.fed + length (first ++ second) ≤ 16777216
-    → feed_answer (feed_answer state first).state second ≡ feed_answer state (first ++ second)
+    → (middle : Digest) × (feed_answer state first ≡ Ok middle) × (feed_answer middle second ≡ feed_answer state (first ++ second))
 both state first second h =
     let middle : Digest = foldl feed_byte state first in
     let sum : length (first ++ second) ≡ length first + length second = length-append first second in
-    let fed : middle.fed ≡ state.fed + length first = fed_sum state first in
-    ap (λ (answer : Fed). feed_answer answer.state second) (accepted state first (omega arith))
-    ∙ accepted middle second (omega arith)
-    ∙ ap (λ (s : Digest). record { refusal = 0; state = s }) (sym (foldl-append feed_byte state first second))
-    ∙ sym (accepted state (first ++ second) h)
+    let fed : middle.fed ≡ state.fed + length first = fed_sum state first in (
+      middle,
+      accepted state first (omega arith),
+      accepted middle second (omega arith) ∙ ap (λ (s : Digest). Ok s) (sym (foldl-append feed_byte state first second))
+          ∙ sym (accepted state (first ++ second) h),
+    )
 
-at_once : (bytes : List ℕ) → length bytes ≤ 16777216 → whole_answer bytes ≡ record { refusal = 0; digest = sha256 bytes }
+at_once : (bytes : List ℕ) → length bytes ≤ 16777216 → whole_answer bytes ≡ Ok (sha256 bytes)
 unfolding whole_answer
 at_once bytes h = rw (le-ltb 16777216 (length bytes) h)
 
 not_fed : (state : Digest) (part : List ℕ) → 16777216 < state.fed + length part
-    → feed_answer state part ≡ record { refusal = 1; state = state }
+    → feed_answer state part ≡ Err TooLarge
 unfolding feed_answer
 not_fed state part h = rw (lt-ltb 16777216 (state.fed + length part) h)
 
-not_finished : (state : Digest) → 16777216 < state.fed → finish_answer state ≡ record { refusal = 1; digest = replicate 32 0 }
+not_finished : (state : Digest) → 16777216 < state.fed → finish_answer state ≡ Err TooLarge
 unfolding finish_answer
 not_finished state h = rw (lt-ltb 16777216 state.fed h)
 
-not_at_once : (bytes : List ℕ) → 16777216 < length bytes → whole_answer bytes ≡ record { refusal = 1; digest = replicate 32 0 }
+not_at_once : (bytes : List ℕ) → 16777216 < length bytes → whole_answer bytes ≡ Err TooLarge
 unfolding whole_answer
 not_at_once bytes h = rw (lt-ltb 16777216 (length bytes) h)
 
 one : (state : Digest) (byte : ℕ) → state.fed < 16777216
-    → ((feed_answer state (byte ∷ [])).state.held ≡ set state.held (state.fed % 64) byte)
-    × ((feed_answer state (byte ∷ [])).state.fed ≡ state.fed + 1)
+    → (next : Digest)
+    × (feed_answer state (byte ∷ []) ≡ Ok next)
+    × (next.held ≡ set state.held (state.fed % 64) byte)
+    × (next.fed ≡ state.fed + 1)
 unfolding feed_byte
-one state byte h =
-    let fed = accepted state (byte ∷ []) (omega arith) in
-    (ap (λ (answer : Fed). answer.state.held) fed, ap (λ (answer : Fed). answer.state.fed) fed)
+one state byte h = (feed_byte state byte, accepted state (byte ∷ []) (omega arith), refl, refl)
 
 pub digests_hold : DigestClaim new feed_answer finish_answer whole_answer
 digests_hold = record {

@@ -1,5 +1,6 @@
 -- What lookup names, fetch hands out. A lookup that names a place was not refused, so Demand 2 gives that the place lies inside the
 -- volume; a fetch from there then passes its checks. Assumes nothing.
+use Rattle.std.specs.Prelude.{Ok}
 use Prim.Native.Nat.{ℕ, zero, suc, ◌+◌, ◌-◌, ◌*◌, ◌≤◌, ◌<◌}
 use mathlib.Core.Path.{◌≡◌, refl, sym, ap, ap₂, ◌∙◌}
 use mathlib.Core.Logic.{⊎_elim}
@@ -27,9 +28,8 @@ use Rattle.lookup.specs.inner.Part.{fetch_part, fetch_address}
 use Rattle.lookup.proofs.Fetch.{range_decides, fetch_passed, chosen_first, chosen_second}
 use Rattle.lookup.proofs.Fetch.{second_has, Held, held_in_first, held_in_second}
 use Rattle.lookup.specs.declared.Stored.{Stored}
-use Rattle.lookup.specs.declared.PositionAnswer.{PositionAnswer as Answer}
-use Rattle.lookup.specs.declared.PositionAnswer.TheVariants as PositionAnswer
-use Rattle.lookup.specs.declared.RunsAnswer.TheVariants as RunsAnswer
+use Rattle.lookup.specs.Answers.{PositionAnswer as Answer, RunsAnswer}
+use Rattle.lookup.specs.declared.Position.TheVariants as position
 use Rattle.claims.specs.Library.{ours}
 use Rattle.claims.specs.Demand2.{extent_of, TrueLengths, IsHole, IsStored, Demand2For}
 use Rattle.claims.specs.Demand2.{Says, a_hole, a_byte, RunsSay, over, run, RangeClaim}
@@ -150,10 +150,10 @@ module _ (volume : List ℕ) (offset : ℕ) (lengths : List ℕ) where
       let next : 5 * suc index ≡ suc (suc (suc (suc (suc (5 * index))))) = omega arith in
       run_at rest index start len number place (omega arith) (rw next at e)
 
-same_place : {a b : Stored} → PositionAnswer.Stored a ≡ PositionAnswer.Stored b → a ≡ b
+same_place : {a b : Stored} → ◌≡◌ {A = Answer} (Ok (position.Stored a)) (Ok (position.Stored b)) → a ≡ b
 same_place e = cc
 
-same_count : {m n : ℕ} → RunsAnswer.Runs m ≡ RunsAnswer.Runs n → m ≡ n
+same_count : {m n : ℕ} → ◌≡◌ {A = RunsAnswer} (Ok m) (Ok n) → m ≡ n
 same_count e = cc
 
 -- What Demand 2 says of a place that lookup names.
@@ -230,7 +230,7 @@ module _ (volume : List ℕ) (offset : ℕ) (lengths : List ℕ) (volumes : ℕ 
       one e (suc k) h = absurd (omega arith)
 
   the_bytes_of_a_run : (from to : ℕ) (out : List ℕ) (count index start len number place : ℕ) (first second : Lent)
-      → runs_answer volume offset lengths from to (length out) ≡ RunsAnswer.Runs count
+      → runs_answer volume offset lengths from to (length out) ≡ Ok count
       → index < count
       → part (runs_room volume offset lengths from to out) (5 * index) 5 ≡ start ∷ len ∷ 1 ∷ number ∷ place ∷ []
       → Lends volumes first second number

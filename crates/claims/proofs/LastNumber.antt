@@ -1,4 +1,5 @@
 -- At the last number reading is refused after every other check, and an append right after 8. Assumes nothing.
+use Rattle.std.specs.Prelude.{Some, None, Ok, Err}
 use Prim.Native.Nat.{ℕ, ◌<◌}
 use mathlib.Core.Path.{◌≡◌, refl, sym, ap, ◌∙◌, subst}
 use mathlib.Core.Bool.{Bool, true, false, not, cond, beq}
@@ -22,8 +23,6 @@ use Rattle.texts.specs.Texts.{texts, texts_at}
 use Rattle.volume.specs.Writing.{place_order, append_fault, append_answer, append_buffer}
 use Rattle.volume.specs.declared.Bookmark.{Bookmark}
 use Rattle.volume.specs.declared.Found.{Found}
-use Rattle.volume.specs.declared.ReadAnswer.TheVariants as read
-use Rattle.volume.specs.declared.WriteAnswer.TheVariants as write
 use Rattle.volume.proofs.Steps.{found_at}
 use Rattle.volume.proofs.OneCall.{right_place, place_right}
 use Rattle.claims.specs.Library.{ours}
@@ -53,10 +52,10 @@ module _ (volume : List ℕ) (mark : Bookmark) where
 
 -- the answer at the last number is made from that at another
 from_other : (end : Bool) (fault : ℕ) (zero : Bool) → eqb fault 0 ≡ zero → (untimely : Bool) (one other : Found) (texts : List (List ℕ))
-    → cond end read.End
-    (cond (eqb (fault_by fault untimely true) 0) (read.Found one) (read.Refused (refusal_with (fault_by fault untimely true) texts)))
-    ≡ uncounted (cond end read.End
-    (cond (eqb (fault_by fault untimely false) 0) (read.Found other) (read.Refused (refusal_with (fault_by fault untimely false) texts))))
+    → cond end (Ok None)
+    (cond (eqb (fault_by fault untimely true) 0) (Ok (Some one)) (Err (refusal_with (fault_by fault untimely true) texts)))
+    ≡ uncounted (cond end (Ok None)
+    (cond (eqb (fault_by fault untimely false) 0) (Ok (Some other)) (Err (refusal_with (fault_by fault untimely false) texts))))
 unfolding refusal_with
 from_other true fault zero e untimely one other texts = refl
 from_other false fault true e true one other texts = rw e refl
@@ -108,11 +107,11 @@ module _ (room : ℕ) (mark : Bookmark) (block : Block) where
           }))
 
   refused : {fault : ℕ} → append_fault room (numbered last_number mark) block ≡ fault → (fault ≡ 0 → ⊥) → (fault ≡ 10 → ⊥)
-      → append_answer room (numbered last_number mark) block ≡ write.Refused (refusal_of fault)
+      → append_answer room (numbered last_number mark) block ≡ Err (refusal_of fault)
   unfolding append_answer
-  refused {fault} e n t = rw (e, ne_eqb fault 0 n) (ap write.Refused (sym (with_other fault (texts block) t)))
+  refused {fault} e n t = rw (e, ne_eqb fault 0 n) (ap Err (sym (with_other fault (texts block) t)))
 
-  counts_on : (next : Bookmark) → append_answer room mark block ≡ write.Next next → NextAfter mark block next
+  counts_on : (next : Bookmark) → append_answer room mark block ≡ Ok next → NextAfter mark block next
   counts_on next e = subst (NextAfter mark block) (append-accepted room mark next block e).1 (next_after mark block)
 
 buffer_stays : (buffer : List ℕ) (mark : Bookmark) (block : Block) → append_buffer buffer (numbered last_number mark) block ≡ buffer

@@ -1,5 +1,6 @@
 -- The listing is the text that is claimed: its lines are got from the calls of the reader, block by block, and so is every other such
 -- text. Assumes nothing.
+use Rattle.std.specs.Prelude.{Some, Ok, Err}
 use Prim.Native.Nat.{ℕ, ◌+◌, ◌≤◌, ◌<◌}
 use mathlib.Core.Path.{◌≡◌, refl, sym, ap, subst, ◌∙◌}
 use mathlib.Core.Bool.{Bool, true, false}
@@ -11,7 +12,7 @@ use lib.ListN.{length}
 use borrow.Author.Tests.{ltb-true, ltb-false, lt-ltb, le-ltb, le-leb, lt-leb}
 use Rattle.number.specs.Number.{Bytes}
 use Rattle.number.proofs.Put.{put_fits, put_past}
-use Rattle.refusal.specs.declared.Refusal.{Refusal}
+use Rattle.refusal.specs.Refusal.{Refusal}
 use Rattle.format.specs.Blocks.{Block, image}
 use Rattle.format.specs.Readings.{Reading}
 use Rattle.block.specs.Shown.{shown}
@@ -23,11 +24,8 @@ use Rattle.volume.specs.inner.Check.{check_answer}
 use Rattle.volume.specs.declared.Bookmark.{Bookmark}
 use Rattle.volume.specs.declared.Found.{Found}
 use Rattle.volume.specs.declared.HeaderRead.{HeaderRead}
-use Rattle.volume.specs.declared.HeaderAnswer.{HeaderAnswer}
-use Rattle.volume.specs.declared.HeaderAnswer.TheVariants as head
-use Rattle.volume.specs.declared.ReadAnswer.TheVariants as read
-use Rattle.volume.specs.declared.Verdict.{Verdict}
-use Rattle.volume.specs.declared.Verdict.TheVariants as verdict
+use Rattle.volume.specs.Answers.{HeaderAnswer}
+use Rattle.volume.specs.Answers.{Verdict}
 use Rattle.volume.proofs.Walk.{walk_step}
 use Rattle.volume.proofs.Checked.{checked}
 use Rattle.volume.proofs.OneCall.{read_sound, end_sound}
@@ -46,7 +44,7 @@ use Rattle.claims.proofs.Refused.{from_zero}
 module _ (volume : List ℕ) (b : Bytes volume) where
   -- a block that is handed out has its line, and the lines go on where its image ends
   lines_go_on : (mark : Bookmark) (found : Found) (blocks : List Block) (last : List ℕ)
-      → read_answer volume mark ≡ read.Found found
+      → read_answer volume mark ≡ Ok (Some found)
       → lines_from volume found.next ≡ lines_of found.next.offset blocks ++ last
       → lines_from volume mark ≡ lines_of mark.offset (shown volume found.block ∷ blocks) ++ last
   lines_go_on mark found blocks last e others =
@@ -78,7 +76,7 @@ calls_end (handed e numbered calls) = calls_end calls
 -- From the header on.
 
 -- the reader begins at 80
-first_at_80 : (volume : List ℕ) (header : HeaderRead) → header_answer volume ≡ head.Accepted header → header.next.offset ≡ 80
+first_at_80 : (volume : List ℕ) (header : HeaderRead) → header_answer volume ≡ Ok header → header.next.offset ≡ 80
 first_at_80 volume header e = sym (ap (λ (mark : Bookmark). mark.offset) (first_given volume header e))
 
 module _ (volume : List ℕ) (b : Bytes volume) (small : length volume ≤ 65536) where
@@ -87,7 +85,7 @@ module _ (volume : List ℕ) (b : Bytes volume) (small : length volume ≤ 65536
   text_after e = rw (le-ltb 65536 (length volume) small, e)
 
   -- the lines of blocks and a last one, after an accepted header
-  text_with : (header : HeaderRead) (blocks : List Block) (last : List ℕ) → header_answer volume ≡ head.Accepted header
+  text_with : (header : HeaderRead) (blocks : List Block) (last : List ℕ) → header_answer volume ≡ Ok header
       → lines_from volume header.next ≡ lines_of header.next.offset blocks ++ last
       → listing volume ≡ heading_line ++ (lines_of 80 blocks ++ last)
   unfolding after_heading
@@ -102,13 +100,13 @@ module _ (volume : List ℕ) (b : Bytes volume) (small : length volume ≤ 65536
       (rw (calls_end g.blocks, g.counted) at (lines_of_calls volume b g.blocks))
 
   -- a reading, or where the reader is refused, makes the listing such a text
-  listed_after : (header : HeaderRead) → header_answer volume ≡ head.Accepted header → (answer : Verdict) → check_answer volume ≡ answer
+  listed_after : (header : HeaderRead) → header_answer volume ≡ Ok header → (answer : Verdict) → check_answer volume ≡ answer
       → Told volume header.next answer → IsListing ours volume (listing volume)
-  listed_after header e (verdict.Accepted accepted) same t =
+  listed_after header e (Ok accepted) same t =
       let reading = (demand_3_reading_holds volume b (omega arith)).accepted_iff_it_has_a_reading.0 (accepted, same) in
       let gives = ((demand_3_reading_holds volume b (omega arith)).reader_gives_the_reading reading.0).0 reading.1 in
       subst (IsListing ours volume) (sym (text_of_accepted reading.0 _ gives.1)) (of_an_accepted_volume reading.0 small reading.1)
-  listed_after header e (verdict.Refused rejected) same (blocks, at, stops, _) =
+  listed_after header e (Err rejected) same (blocks, at, stops, _) =
       subst (IsListing ours volume) (sym (text_with header blocks _ e (lines_of_stops volume b stops)))
       (of_a_refused_block header blocks at rejected.refusal small e (from_zero e stops))
 

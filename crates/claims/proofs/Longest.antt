@@ -1,5 +1,6 @@
 -- Where the reader is refused and no table is due, the longest accepted beginning of the volume ends: up to there all is read as in the
 -- volume, and a longer beginning that is accepted would take the reader further. Assumes nothing.
+use Rattle.std.specs.Prelude.{Ok, Err}
 use Prim.Native.Nat.{ℕ, ◌≤◌}
 use mathlib.Core.Path.{◌≡◌, sym, ap, ◌∙◌, subst}
 use mathlib.Core.Bool.{false}
@@ -9,7 +10,7 @@ use lib.ListN.{length, take, drop, take-append-drop}
 use lib.Seq.{length-take-le, take-length, take-take}
 use Rattle.number.specs.Number.{Bytes}
 use Rattle.number.proofs.Digits.{bytes_take}
-use Rattle.refusal.specs.declared.Refusal.{Refusal}
+use Rattle.refusal.specs.Refusal.{Refusal}
 use Rattle.block.specs.Order.{volume_limit}
 use Rattle.volume.specs.Heading.{sequence_of, header_fault, first_mark, header_answer}
 use Rattle.volume.specs.Reading.{read_answer}
@@ -17,10 +18,7 @@ use Rattle.volume.specs.Checking.{Checked, accepted_at_the_end, refused_at_the_h
 use Rattle.volume.specs.declared.Bookmark.{Bookmark}
 use Rattle.volume.specs.declared.HeaderRead.{HeaderRead}
 use Rattle.volume.specs.declared.Accepted.{Accepted}
-use Rattle.volume.specs.declared.HeaderAnswer.TheVariants as head
-use Rattle.volume.specs.declared.ReadAnswer.TheVariants as read
-use Rattle.volume.specs.declared.Verdict.{Verdict}
-use Rattle.volume.specs.declared.Verdict.TheVariants as verdict
+use Rattle.volume.specs.Answers.{Verdict}
 use Rattle.volume.proofs.Passed.{header_passed}
 use Rattle.volume.proofs.OneCall.{AtEnd, end_sound, end_complete}
 use Rattle.volume.proofs.Checked.{checked, checked_exactly}
@@ -40,7 +38,7 @@ pub record Begun (volume : List ℕ) (header : HeaderRead) : Type 0 where
   pub first : first_mark (sequence_of volume) ≡ header.next
   pub base : header.next.offset ≡ 80
 
-pub begun : (volume : List ℕ) (header : HeaderRead) → header_answer volume ≡ head.Accepted header → Begun volume header
+pub begun : (volume : List ℕ) (header : HeaderRead) → header_answer volume ≡ Ok header → Begun volume header
 begun volume header e =
     let given = header_given volume header e in
     let passed = header_passed volume given.0 in
@@ -57,17 +55,17 @@ begun volume header e =
 pub record ReadThrough (volume : List ℕ) : Type 0 where
   pub header : HeaderRead
   pub end : Bookmark
-  pub sound_header : header_answer volume ≡ head.Accepted header
+  pub sound_header : header_answer volume ≡ Ok header
   pub passes : Passes volume header.next end
   pub ends : AtEnd volume end
 
 pub read_through : (volume : List ℕ) → IsAccepted ours volume → ReadThrough volume
 read_through volume (answer, accepted) = go (checked volume) accepted
   where
-    go : {v : Verdict} → Checked volume v → v ≡ verdict.Accepted answer → ReadThrough volume
+    go : {v : Verdict} → Checked volume v → v ≡ Ok answer → ReadThrough volume
     go (refused_at_the_header e) same = let z : ◌≡◌ {A = ℕ} 0 1 = cc in absurd (omega arith)
     go (after_the_header {header = header} e later) same =
-        let t : Told volume header.next (verdict.Accepted answer) = subst (Told volume header.next) same (told later) in
+        let t : Told volume header.next (Ok answer) = subst (Told volume header.next) same (told later) in
         let p = calls_pass t.1 in
         record {
           header = header;
@@ -77,7 +75,7 @@ read_through volume (answer, accepted) = go (checked volume) accepted
           ends = end_sound volume answer.end p.1;
         }
 
-module _ (volume : List ℕ) (b : Bytes volume) (header : HeaderRead) (sound_header : header_answer volume ≡ head.Accepted header)
+module _ (volume : List ℕ) (b : Bytes volume) (header : HeaderRead) (sound_header : header_answer volume ≡ Ok header)
     (at : Bookmark) (passes : Passes volume header.next at) where
   start : Begun volume header
   start = begun volume header sound_header
@@ -100,15 +98,15 @@ module _ (volume : List ℕ) (b : Bytes volume) (header : HeaderRead) (sound_hea
       = passes_in_beginning left off (rw together b) small (omega arith)
       (subst (λ (bytes : List ℕ). Passes bytes header.next at) (sym together) passes) in
       let ends : AtEnd left at = record { small = small; base = within.0; offset = sym l; none_due = no_table } in
-      let heads : header_answer left ≡ head.Accepted header
+      let heads : header_answer left ≡ Ok header
       = header_alike volume left b small (take-take 80 at.offset volume within.0) start.no_fault ∙ sound_header in
       let answer : Accepted = record { sequence = header.sequence; end = at } in (
         answer,
-        sym ((checked_exactly left (verdict.Accepted answer)).0
+        sym ((checked_exactly left (Ok answer)).0
             (after_the_header heads (checked_past there (accepted_at_the_end (end_complete left at ends))))),
       )
 
-  no_longer : {refusal : Refusal} → read_answer volume at ≡ read.Refused refusal
+  no_longer : {refusal : Refusal} → read_answer volume at ≡ Err refusal
       → (m : ℕ) → m ≤ length volume → IsAccepted ours (take m volume) → m ≤ at.offset
   no_longer refused m h a =
       let left : List ℕ = take m volume in
@@ -128,7 +126,7 @@ module _ (volume : List ℕ) (b : Bytes volume) (header : HeaderRead) (sound_hea
       let there = not_refused_before from (subst (λ (k : HeaderRead). Passes volume k.next r.end) same on) passes refused in
       omega (arith, r.ends.offset)
 
-  pub longest_there : {refusal : Refusal} → read_answer volume at ≡ read.Refused refusal → at.due ≡ false
+  pub longest_there : {refusal : Refusal} → read_answer volume at ≡ Err refusal → at.due ≡ false
       → LongestAccepted ours volume at.offset
   longest_there refused no_table =
       record { within = within.1; accepted = beginning_accepted no_table; longest = no_longer refused }

@@ -1,5 +1,6 @@
 -- The bookmarks that the reader comes to, one block after the other: how they lie in a volume, that there is one way through it, and that
 -- another volume with the same bytes up to there has the same. Assumes nothing.
+use Rattle.std.specs.Prelude.{Some, None, Ok, Err}
 use Prim.Native.Nat.{ℕ, ◌≤◌}
 use mathlib.Core.Path.{◌≡◌, sym, ap, subst}
 use mathlib.Core.Bool.{false}
@@ -7,15 +8,14 @@ use mathlib.Core.List.{List, ◌++◌}
 use native.Mathlib.Omega.{arith}
 use lib.ListN.{length}
 use Rattle.number.specs.Number.{Bytes}
-use Rattle.refusal.specs.declared.Refusal.{Refusal}
+use Rattle.refusal.specs.Refusal.{Refusal}
 use Rattle.format.specs.Blocks.{Block}
 use Rattle.block.specs.Order.{volume_limit}
 use Rattle.volume.specs.Reading.{read_answer}
 use Rattle.volume.specs.Checking.{CheckedFrom, after_a_block}
 use Rattle.volume.specs.declared.Bookmark.{Bookmark}
 use Rattle.volume.specs.declared.Found.{Found}
-use Rattle.volume.specs.declared.ReadAnswer.TheVariants as read
-use Rattle.volume.specs.declared.Verdict.{Verdict}
+use Rattle.volume.specs.Answers.{Verdict}
 use Rattle.volume.proofs.Steps.{found_there, read_further}
 use Rattle.claims.specs.Library.{ours}
 use Rattle.claims.specs.Demand3Reading.{Calls, ended, handed, Stops, stopped, handed_before}
@@ -24,17 +24,17 @@ use Rattle.claims.proofs.Alike.{still_read, read_in_beginning}
 -- the reader comes from one bookmark to another
 pub data Passes (volume : List ℕ) : (from to : Bookmark) → Type 0 where
   here : {mark : Bookmark} → Passes volume mark mark
-  past : {mark to : Bookmark} {found : Found} → read_answer volume mark ≡ read.Found found → Passes volume found.next to
+  past : {mark to : Bookmark} {found : Found} → read_answer volume mark ≡ Ok (Some found) → Passes volume found.next to
       → Passes volume mark to
 
 -- as it does up to "end", and up to a refusal
 pub calls_pass : {volume : List ℕ} {number : ℕ} {mark end : Bookmark} {blocks : List Block} → Calls ours volume number mark blocks end
-    → Passes volume mark end × (read_answer volume end ≡ read.End)
+    → Passes volume mark end × (read_answer volume end ≡ Ok None)
 calls_pass (ended e) = (here, e)
 calls_pass (handed e numbered calls) = let p = calls_pass calls in (past e p.0, p.1)
 
 pub stops_pass : {volume : List ℕ} {number : ℕ} {mark at : Bookmark} {blocks : List Block} {refusal : Refusal}
-    → Stops ours volume number mark blocks at refusal → Passes volume mark at × (read_answer volume at ≡ read.Refused refusal)
+    → Stops ours volume number mark blocks at refusal → Passes volume mark at × (read_answer volume at ≡ Err refusal)
 stops_pass (stopped e) = (here, e)
 stops_pass (handed_before e numbered calls) = let p = stops_pass calls in (past e p.0, p.1)
 
@@ -61,7 +61,7 @@ passes_due {volume} {mark} (past {found = found} e later) d =
 
 -- wherever it comes to, it is refused at no earlier bookmark
 pub not_refused_before : {volume : List ℕ} {mark to at : Bookmark} {refusal : Refusal} → mark.offset ≤ length volume
-    → Passes volume mark to → Passes volume mark at → read_answer volume at ≡ read.Refused refusal → to.offset ≤ at.offset
+    → Passes volume mark to → Passes volume mark at → read_answer volume at ≡ Err refusal → to.offset ≤ at.offset
 not_refused_before within here p r = (passes_further p within).0
 not_refused_before within (past e later) here r = let z : ◌≡◌ {A = ℕ} 0 1 = cc in absurd (omega arith)
 not_refused_before {volume} {mark} {at = at} within (past {found = found} e later) (past {found = other} f onward) r =

@@ -1,9 +1,10 @@
 -- The runs of a range query are those of the file's list of extents: they agree with the answers for positions, they are the longest
 -- stretches, and the room decides between them and 17. Assumes nothing.
+use Rattle.std.specs.Prelude.{Option, Some, None, Ok, Err}
 use Prim.Native.Nat.{ℕ, ◌+◌, ◌*◌, ◌≤◌, ◌<◌, min}
 use mathlib.Core.Path.{◌≡◌, refl, sym, ◌∙◌}
 use mathlib.Core.Bool.{cond}
-use mathlib.Core.Option.{Option, none, some}
+use mathlib.Core.Option.{Option as Found, none, some}
 use mathlib.Core.List.{List, [], ◌∷◌, ◌++◌}
 use native.Mathlib.Nat.{zero-add}
 use native.Mathlib.Omega.{arith}
@@ -15,31 +16,29 @@ use Rattle.checks.specs.Checks.{check, first_fault}
 use Rattle.checks.proofs.Laws.{first_fault-append}
 use Rattle.checks.proofs.First.{option_cases}
 use Rattle.refusal.specs.Refusal.{refusal_of, refusal_with}
+use Rattle.format.specs.declared.Physical.{Physical}
 use Rattle.block.specs.Fields.{size_at, rest_at}
 use Rattle.runs.specs.Positions.{keeper}
 use Rattle.runs.specs.inner.Computed.{run_lengths, run_numbers, run_count, range_numbers}
 use Rattle.runs.specs.inner.Answers as runs
-use Rattle.runs.specs.declared.Place.{Place}
-use Rattle.runs.specs.declared.Place.TheVariants as place
 use Rattle.runs.proofs.Meaning.{runs_are_runs, runs_only}
 use Rattle.runs.proofs.Agree.{Agrees, over, hole_first, stored_first, runs_agree_with_positions}
 use Rattle.runs.proofs.Fill.{numbers_long}
 use Rattle.lookup.proofs.Deciding.{lookup_numbered}
 use Rattle.lookup.specs.inner.Answers.{place_for, position_answer, runs_answer, runs_room}
 use Rattle.lookup.specs.Lookup.{lookup_order, lookup_fault, runs_fault}
-use Rattle.lookup.specs.declared.PositionAnswer.{PositionAnswer}
-use Rattle.lookup.specs.declared.PositionAnswer.TheVariants.{Hole, Stored}
-use Rattle.lookup.specs.declared.RunsAnswer.TheVariants.{Runs, Refused}
+use Rattle.lookup.specs.Answers.{PositionAnswer}
+use Rattle.lookup.specs.declared.Position.TheVariants.{Hole, Stored}
 use Rattle.claims.specs.Library.{ours}
 use Rattle.claims.specs.Demand2 as claim
 use Rattle.claims.specs.Demand2.{a_hole, a_byte, RunsSay, run, RangeClaim}
 
 -- a place over a list of extents, as the answer of a lookup
-abbrev as_answer : Place → PositionAnswer
-as_answer place.Hole = Hole
-as_answer (place.Stored number start) = Stored (record { volume = number; offset = start })
+abbrev as_answer : Option (ℕ × Physical) → PositionAnswer
+as_answer None = Ok Hole
+as_answer (Some (number, start)) = Ok (Stored (record { volume = number; offset = start }))
 
-same_place : (list : List ℕ) (position : ℕ) (o : Option ℕ) → place_for list position o ≡ as_answer (runs.place_for list position o)
+same_place : (list : List ℕ) (position : ℕ) (o : Found ℕ) → place_for list position o ≡ as_answer (runs.place_for list position o)
 same_place list position none = refl
 same_place list position (some i) = refl
 
@@ -109,7 +108,7 @@ module _ (volume : List ℕ) (offset : ℕ) (lengths : List ℕ) (clear : lookup
         (lookup_numbered volume offset lengths) ∙ rw clear
 
     pub room_enough : (out : List ℕ) → 5 * length lens ≤ length out
-        → (runs_answer volume offset lengths from to (length out) ≡ Runs (length lens))
+        → (runs_answer volume offset lengths from to (length out) ≡ Ok (length lens))
         × (runs_room volume offset lengths from to out ≡ range_numbers list (size_at volume offset) from to ++ drop (5 * length lens) out)
     unfolding runs_answer runs_room run_count range_numbers
     room_enough out h =
@@ -119,7 +118,7 @@ module _ (volume : List ℕ) (offset : ℕ) (lengths : List ℕ) (clear : lookup
         (rw f, rw f (put_fits out 0 (run_numbers list from lens) (omega arith) ∙ rw (n, zero-add)))
 
     pub room_too_small : (out : List ℕ) → length out < 5 * length lens
-        → (runs_answer volume offset lengths from to (length out) ≡ Refused (refusal_of 17))
+        → (runs_answer volume offset lengths from to (length out) ≡ Err (refusal_of 17))
         × (runs_room volume offset lengths from to out ≡ out)
     unfolding runs_answer runs_room refusal_with
     room_too_small out h =

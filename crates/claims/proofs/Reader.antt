@@ -1,5 +1,6 @@
 -- The reader called until "end" hands out exactly blocks that keep the rules and whose images stand there end to end, and the
 -- check goes the same way. Assumes nothing.
+use Rattle.std.specs.Prelude.{Some, Ok, Err}
 use Prim.Native.Nat.{ℕ, suc, ◌+◌, ◌-◌, ◌≤◌}
 use mathlib.Core.Path.{◌≡◌, refl, sym, ap, ap₂, ◌∙◌, subst}
 use mathlib.Core.List.{List, [], ◌∷◌, ◌++◌}
@@ -8,7 +9,7 @@ use lib.ListN.{length, drop, length-append, length-drop}
 use lib.Seq.{drop-length}
 use Rattle.number.specs.Number.{Bytes}
 use Rattle.number.proofs.Parts.{drop_past}
-use Rattle.refusal.specs.declared.Refusal.{Refusal}
+use Rattle.refusal.specs.Refusal.{Refusal}
 use Rattle.format.specs.Blocks.{Block, image}
 use Rattle.format.specs.Readings.{images}
 use Rattle.block.specs.Order.{volume_limit}
@@ -17,9 +18,7 @@ use Rattle.volume.specs.Reading.{read_answer}
 use Rattle.volume.specs.Checking.{CheckedFrom, accepted_at_the_end, refused_at_a_block, after_a_block}
 use Rattle.volume.specs.declared.Bookmark.{Bookmark}
 use Rattle.volume.specs.declared.Found.{Found}
-use Rattle.volume.specs.declared.ReadAnswer.TheVariants as read
-use Rattle.volume.specs.declared.Verdict.{Verdict}
-use Rattle.volume.specs.declared.Verdict.TheVariants as verdict
+use Rattle.volume.specs.Answers.{Verdict}
 use Rattle.volume.proofs.Steps.{read_counts}
 use Rattle.volume.proofs.OneCall.{after, HandedOut, read_sound, Hands, read_complete, AtEnd, end_sound, end_complete}
 use Rattle.claims.specs.Library.{ours}
@@ -69,14 +68,14 @@ calls_complete volume mark (block ∷ blocks) small base within runs e =
 -- where the reader comes to "end", the check from the same bookmark on accepts
 pub check_complete : {volume : List ℕ} {number : ℕ} {mark end : Bookmark} {blocks : List Block} (sequence : ℕ)
     → Calls ours volume number mark blocks end
-    → CheckedFrom volume sequence mark (verdict.Accepted (record { sequence = sequence; end = end }))
+    → CheckedFrom volume sequence mark (Ok (record { sequence = sequence; end = end }))
 check_complete sequence (ended e) = accepted_at_the_end e
 check_complete sequence (handed e numbered calls) = after_a_block e (check_complete sequence calls)
 
 -- where the reader refuses, the check from the same bookmark on refuses there
 pub check_stops : {volume : List ℕ} {number : ℕ} {mark at : Bookmark} {blocks : List Block} {refusal : Refusal} (sequence : ℕ)
     → Stops ours volume number mark blocks at refusal
-    → CheckedFrom volume sequence mark (verdict.Refused (record { refusal = refusal; offset = at.offset; blocks = at.number }))
+    → CheckedFrom volume sequence mark (Err (record { refusal = refusal; offset = at.offset; blocks = at.number }))
 check_stops sequence (stopped e) = refused_at_a_block e
 check_stops sequence (handed_before e numbered calls) = after_a_block e (check_stops sequence calls)
 
@@ -90,19 +89,19 @@ stops_count {volume} {mark = mark} (handed_before {found = found} e numbered cal
 -- what a verdict tells of the reader from a bookmark on: it comes to "end" at the end bookmark, or it is refused, where and after how
 -- many blocks the verdict says
 abbrev pub Told : (volume : List ℕ) → Bookmark → Verdict → Type 0
-Told volume mark (verdict.Accepted answer) = (blocks : List Block) × Calls ours volume mark.number mark blocks answer.end
-Told volume mark (verdict.Refused answer) =
+Told volume mark (Ok answer) = (blocks : List Block) × Calls ours volume mark.number mark blocks answer.end
+Told volume mark (Err answer) =
     (blocks : List Block) × (at : Bookmark) × Stops ours volume mark.number mark blocks at answer.refusal
     × (answer ≡ record { refusal = answer.refusal; offset = at.offset; blocks = at.number })
 
-one_more : (volume : List ℕ) (mark : Bookmark) (found : Found) → read_answer volume mark ≡ read.Found found
+one_more : (volume : List ℕ) (mark : Bookmark) (found : Found) → read_answer volume mark ≡ Ok (Some found)
     → (answer : Verdict) → Told volume found.next answer → Told volume mark answer
-one_more volume mark found e (verdict.Accepted answer) (blocks, calls) =
+one_more volume mark found e (Ok answer) (blocks, calls) =
     let counts = read_counts volume mark found e in (
       shown volume found.block ∷ blocks,
       handed e counts.0 (subst (λ (n : ℕ). Calls ours volume n found.next blocks answer.end) counts.1 calls),
     )
-one_more volume mark found e (verdict.Refused answer) (blocks, at, calls, same) =
+one_more volume mark found e (Err answer) (blocks, at, calls, same) =
     let counts = read_counts volume mark found e in (
       shown volume found.block ∷ blocks,
       at,

@@ -1,5 +1,6 @@
 -- Repair answers what is claimed: the test by offset and sequence number finds the volumes that are cut in a block other than the table, and
 -- the offset of that block is the length of the longest accepted beginning. Assumes nothing.
+use Rattle.std.specs.Prelude.{Ok, Err}
 use Prim.Native.Nat.{ℕ}
 use mathlib.Core.Path.{◌≡◌, refl, sym, ap, ap₂, ◌∙◌, subst}
 use mathlib.Core.Bool.{Bool, true, false, not, cond, ◌&&◌, and-false, and-true, and-eq-true_iff, false≢true}
@@ -16,13 +17,10 @@ use Rattle.volume.specs.declared.Bookmark.{Bookmark}
 use Rattle.volume.specs.declared.Found.{Found}
 use Rattle.volume.specs.declared.HeaderRead.{HeaderRead}
 use Rattle.volume.specs.declared.Rejected.{Rejected}
-use Rattle.volume.specs.declared.HeaderAnswer.TheVariants as head
-use Rattle.volume.specs.declared.Verdict.{Verdict}
-use Rattle.volume.specs.declared.Verdict.TheVariants as verdict
+use Rattle.volume.specs.Answers.{Verdict}
 use Rattle.volume.proofs.Steps.{found_there, read_further}
 use Rattle.repair.specs.Repairing.{in_table, is_torn, repaired, repair_answer}
-use Rattle.repair.specs.declared.RepairAnswer.{RepairAnswer}
-use Rattle.repair.specs.declared.RepairAnswer.TheVariants as repair
+use Rattle.repair.specs.Answers.{RepairAnswer}
 use Rattle.claims.specs.Library.{ours}
 use Rattle.claims.specs.Demand3Reading.{RefusedAt, at_the_header, at_a_block}
 use Rattle.claims.specs.Torn.{TornAppend, CutInBlock, LongestAccepted, Repairs, whole, cut, refused, RepairClaim}
@@ -42,7 +40,7 @@ table_test_is_due volume sequence at (past {found = found} e later) =
     rw (ne_eqb at.offset 80 (λ same. omega (arith, further.0, onward.0)), and-false, due)
 
 -- so behind a sound header a volume is torn where it is refused with 2 and no table is due
-torn_there : (volume : List ℕ) (header : HeaderRead) (at : Bookmark) (number : ℕ) → header_answer volume ≡ head.Accepted header
+torn_there : (volume : List ℕ) (header : HeaderRead) (at : Bookmark) (number : ℕ) → header_answer volume ≡ Ok header
     → Passes volume header.next at → is_torn (sequence_of volume) number at.offset ≡ (eqb number 2 && not at.due)
 unfolding is_torn
 torn_there volume header at number e p =
@@ -83,7 +81,7 @@ torn_is_cut volume rejected b (at_a_block {header = header} {blocks = blocks} {a
 -- a volume that is cut in a block: what the check answers, that the test finds it, and its longest accepted beginning
 record FoundCut (volume : List ℕ) : Type 0 where
   pub rejected : Rejected
-  pub refusal : check_answer volume ≡ verdict.Refused rejected
+  pub refusal : check_answer volume ≡ Err rejected
   pub torn : TestedTorn volume rejected ≡ true
   pub longest : LongestAccepted ours volume rejected.offset
 
@@ -106,8 +104,8 @@ module _ (volume : List ℕ) (b : Bytes volume) where
   unfolding repair_answer repaired
   is_so = go (check_answer volume) refl
     where
-      either : (rejected : Rejected) → check_answer volume ≡ verdict.Refused rejected → (torn : Bool) → TestedTorn volume rejected ≡ torn
-          → Repairs ours volume (cond torn (repair.Length rejected.offset) (repair.Refused rejected.refusal))
+      either : (rejected : Rejected) → check_answer volume ≡ Err rejected → (torn : Bool) → TestedTorn volume rejected ≡ torn
+          → Repairs ours volume (cond torn (Ok rejected.offset) (Err rejected.refusal))
       either rejected e true t =
           let c = torn_is_cut volume rejected b ((refused_volumes volume rejected).0 e) t in
           cut c.0 c.1
@@ -118,8 +116,8 @@ module _ (volume : List ℕ) (b : Bytes volume) where
           false≢true (sym t ∙ sym (ap (TestedTorn volume) same) ∙ f.torn))
 
       go : (v : Verdict) → check_answer volume ≡ v → Repairs ours volume (repaired volume v)
-      go (verdict.Accepted a) e = whole (a, e)
-      go (verdict.Refused rejected) e = either rejected e (TestedTorn volume rejected) refl
+      go (Ok a) e = whole (a, e)
+      go (Err rejected) e = either rejected e (TestedTorn volume rejected) refl
 
   -- and what is so is answered
   answered : (answer : RepairAnswer) → Repairs ours volume answer → repair_answer volume ≡ answer
@@ -127,15 +125,15 @@ module _ (volume : List ℕ) (b : Bytes volume) where
   answered answer (whole a) = rw a.1
   answered answer (cut c l) =
       let f : FoundCut volume = cut_is_torn volume b c in
-      rw (f.refusal, f.torn) (ap repair.Length (one_longest f.longest l))
+      rw (f.refusal, f.torn) (ap Ok (one_longest f.longest l))
   answered answer (refused {rejected = rejected} e not-cut) = rw e (go (TestedTorn volume rejected) refl)
     where
       go : (torn : Bool) → TestedTorn volume rejected ≡ torn
-          → cond torn (repair.Length rejected.offset) (repair.Refused rejected.refusal) ≡ repair.Refused rejected.refusal
+          → cond {A = RepairAnswer} torn (Ok rejected.offset) (Err rejected.refusal) ≡ Err rejected.refusal
       go true t = absurd (not-cut (torn_is_cut volume rejected b ((refused_volumes volume rejected).0 e) t).0)
       go false t = refl
 
-  length-longest : {answer : RepairAnswer} (n : ℕ) → Repairs ours volume answer → answer ≡ repair.Length n → LongestAccepted ours volume n
+  length-longest : {answer : RepairAnswer} (n : ℕ) → Repairs ours volume answer → answer ≡ Ok n → LongestAccepted ours volume n
   length-longest n (whole a) e =
       let same : length volume ≡ n = cc in
       subst (LongestAccepted ours volume) same (longest_whole volume a)
@@ -154,7 +152,7 @@ torn_tested volume reading torn b t =
     ∙ ap not ends.none_due
 
 torn_repaired : (volume : List ℕ) (reading : Reading) (torn : List ℕ) → Bytes volume → TornAppend ours volume reading torn
-    → repair_answer torn ≡ repair.Length (length volume)
+    → repair_answer torn ≡ Ok (length volume)
 unfolding repair_answer repaired
 torn_repaired volume reading torn b t = rw (torn_refused volume reading torn b t, torn_tested volume reading torn b t)
 

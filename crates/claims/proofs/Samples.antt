@@ -1,5 +1,6 @@
 -- Every row of the table of samples holds. The calls are computed from the definitions on the bytes of the volumes, but for the
 -- checksum of a file's inode block: it is right because the image is sealed. Assumes nothing.
+use Rattle.std.specs.Prelude.{Some, Ok, Err}
 use Prim.Native.Nat.{ℕ, zero, suc, ◌+◌, ◌*◌, ◌/◌, ◌≤◌, ◌<◌, min}
 use mathlib.Core.Path.{◌≡◌, refl, sym, ap, ◌∙◌}
 use mathlib.Core.Bool.{true, false}
@@ -30,9 +31,6 @@ use Rattle.block.specs.Shown.{shown}
 use Rattle.volume.specs.Heading.{header_fault, header_answer}
 use Rattle.volume.specs.Reading.{is_end, may_follow, read_order, read_fault, read_answer}
 use Rattle.volume.specs.inner.Check.{after_header, check_answer}
-use Rattle.volume.specs.declared.HeaderAnswer.TheVariants as HeaderAnswer
-use Rattle.volume.specs.declared.ReadAnswer.TheVariants.{Found}
-use Rattle.volume.specs.declared.Verdict.TheVariants as Verdict
 use Rattle.volume.proofs.Steps.{found_at, refusal_read, found_read}
 use Rattle.runs.specs.Positions.{keeps, copy_of, keeper}
 use Rattle.runs.specs.inner.Stored.{stored_at}
@@ -41,19 +39,19 @@ use Rattle.runs.specs.inner.Computed.{joins, runs_of, run_lengths, run_numbers, 
 use Rattle.runs.proofs.Fill.{numbers_long}
 use Rattle.lookup.specs.Lookup.{lengths_wrong, not_file, is_absent, some_absent, is_stray, some_stray, lookup_order, lookup_fault}
 use Rattle.lookup.specs.inner.Answers.{position_answer}
-use Rattle.lookup.specs.declared.PositionAnswer.TheVariants.{PastEnd}
+use Rattle.lookup.specs.declared.Position.TheVariants.{PastEnd}
 use Rattle.claims.specs.Demand2.{KeptBy}
 use Rattle.claims.specs.Samples.{EveryRowHolds, Holds, read_refuses, position_is, runs_are, runs_refuse, File, inode, with_file, after_v, lengths, file_a, file_b, large, empty, touching, overlapping}
 use Rattle.claims.proofs.Ranges.{room_enough, room_too_small}
 
 -- fewer bytes than a header has, whatever they are
 too_short : (volume : List ℕ) → length volume < 80
-    → check_answer volume ≡ Verdict.Refused (record { refusal = refusal_of 2; offset = 0; blocks = 0 })
+    → check_answer volume ≡ Err (record { refusal = refusal_of 2; offset = 0; blocks = 0 })
 unfolding check_answer after_header header_answer header_fault
 too_short volume h =
     let f : header_fault volume ≡ 2
     = sym (decided (miss (le-ltb volume_limit (length volume) (omega arith)) (hit (lt-ltb (length volume) 80 h)))) in
-    let a : header_answer volume ≡ HeaderAnswer.Refused (refusal_of 2) = rw f in
+    let a : header_answer volume ≡ (Err (refusal_of 2)) = rw f in
     ap (after_header volume) a
 
 -- a check that is not at fault may be left out
@@ -99,7 +97,7 @@ module _ (file : File) where
     read_refuses_lem number e =
         sym (refusal_read volume after_v (11 + number) more (fault_is ∙ e) (λ z. omega arith) (with_other (11 + number) _ (λ z. omega arith)))
 
-    read_gives_lem : read_others ≡ 0 → read_answer volume after_v ≡ Found (found_at volume after_v)
+    read_gives_lem : read_others ≡ 0 → read_answer volume after_v ≡ Ok (Some (found_at volume after_v))
     read_gives_lem e = sym (found_read volume after_v more (fault_is ∙ e))
 
   -- the checks of a lookup, but that of the checksum
@@ -111,7 +109,7 @@ module _ (file : File) where
     unfolding lookup_fault
     clear = without 9 (lookup_order volume 104 lengths) (same ∙ sum_right file) ∙ none
 
-    position_past : (position : ℕ) → size_at volume 104 ≤ position → Holds (position_is file position PastEnd)
+    position_past : (position : ℕ) → size_at volume 104 ≤ position → Holds (position_is file position (Ok PastEnd))
     unfolding position_answer
     position_past position h = rw (clear, le-ltb position (size_at volume 104) h)
 

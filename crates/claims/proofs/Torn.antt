@@ -1,5 +1,6 @@
 -- A torn append is refused with 2 where the volume ended: the reader goes through the volume as before, and the block that comes then is
 -- one that was sound before its end was cut off. Assumes nothing.
+use Rattle.std.specs.Prelude.{Ok, Err}
 use Prim.Native.Nat.{ℕ, ◌+◌, ◌≤◌}
 use mathlib.Core.Path.{◌≡◌, sym, ap, ap₂, ◌∙◌}
 use mathlib.Core.List.{List, [], ◌++◌, append_assoc, append-nil}
@@ -15,9 +16,6 @@ use Rattle.volume.specs.Heading.{header_answer}
 use Rattle.volume.specs.Reading.{read_fault, next_mark, read_answer}
 use Rattle.volume.specs.Checking.{Checked, refused_at_a_block, after_the_header}
 use Rattle.volume.specs.declared.Bookmark.{Bookmark}
-use Rattle.volume.specs.declared.HeaderAnswer.TheVariants as head
-use Rattle.volume.specs.declared.ReadAnswer.TheVariants as read
-use Rattle.volume.specs.declared.Verdict.TheVariants as verdict
 use Rattle.volume.proofs.Steps.{found_sound}
 use Rattle.volume.proofs.OneCall.{Hands, read_complete, AtEnd, end_sound}
 use Rattle.volume.proofs.Checked.{checked_exactly}
@@ -70,7 +68,7 @@ module _ (volume : List ℕ) (reading : Reading) (torn : List ℕ) (b : Bytes vo
       (drop_at volume new t.end.offset (sym offset) ∙ sym (append-nil new))
 
   -- and with some of them it is refused
-  pub refused_there : read_answer left t.end ≡ read.Refused (refusal_of 2)
+  pub refused_there : read_answer left t.end ≡ Err (refusal_of 2)
   refused_there =
       let offset = at_end_lem.offset in
       let some = t.some in
@@ -82,7 +80,7 @@ module _ (volume : List ℕ) (reading : Reading) (torn : List ℕ) (b : Bytes vo
       at_end_lem.none_due (omega (arith, long)) (omega (arith, long, end))
 
   -- up to there all is as it was
-  pub header_there : header_answer left ≡ head.Accepted (record { sequence = reading.header.sequence; next = t.read.first })
+  pub header_there : header_answer left ≡ Ok (record { sequence = reading.header.sequence; next = t.read.first })
   header_there =
       let base = at_end_lem.base in
       let offset = at_end_lem.offset in
@@ -93,15 +91,15 @@ module _ (volume : List ℕ) (reading : Reading) (torn : List ℕ) (b : Bytes vo
   pub passes_there : Passes left t.read.first t.end
   passes_there = passes_on volume (take t.stored new) b small (calls_pass t.read.blocks).0
 
-  checked_there : Checked left (verdict.Refused (record { refusal = refusal_of 2; offset = t.end.offset; blocks = t.end.number }))
+  checked_there : Checked left (Err (record { refusal = refusal_of 2; offset = t.end.offset; blocks = t.end.number }))
   checked_there = after_the_header header_there (checked_past passes_there (refused_at_a_block refused_there))
 
   pub torn_refused : ours.check torn
-      ≡ verdict.Refused (record { refusal = refusal_of 2; offset = length volume; blocks = length reading.blocks })
+      ≡ Err (record { refusal = refusal_of 2; offset = length volume; blocks = length reading.blocks })
   torn_refused =
       ap (λ bytes. ours.check bytes) t.same
       ∙ sym ((checked_exactly left _).0 checked_there)
-      ∙ ap₂ (λ offset blocks. verdict.Refused (record { refusal = refusal_of 2; offset = offset; blocks = blocks }))
+      ∙ ap₂ (λ offset blocks. (Err (record { refusal = refusal_of 2; offset = offset; blocks = blocks })))
       at_end_lem.offset t.read.counted
 
 pub torn_appends_are_refused : TornClaim ours

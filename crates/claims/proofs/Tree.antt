@@ -1,5 +1,6 @@
 -- Listing the tree answers what is claimed: its lines are those of the one listing of the table that is read, and the checks of reading
 -- come before those of the lines. Assumes nothing.
+use Rattle.std.specs.Prelude.{Ok, Err}
 use Prim.Native.Nat.{ℕ, ◌+◌, ◌≤◌}
 use mathlib.Core.Path.{◌≡◌, refl, sym, ap, ◌∙◌, subst, subst₂}
 use mathlib.Core.Bool.{false≢true}
@@ -20,13 +21,12 @@ use Rattle.block.specs.declared.Block.TheVariants.{Table}
 use Rattle.volume.specs.Reading.{read_fault, read_answer}
 use Rattle.volume.specs.declared.Bookmark.{Bookmark}
 use Rattle.volume.specs.declared.Found.{Found}
-use Rattle.volume.specs.declared.ReadAnswer.{ReadAnswer}
+use Rattle.volume.specs.Answers.{ReadAnswer}
 use Rattle.volume.proofs.Steps.{found_at, Answers, ends, finds, refuses, answers, found_there, found_sound}
 use Rattle.volume.proofs.TableLinks.{table_rules}
 use Rattle.folders.specs.Lines.{line_numbers}
 use Rattle.tree.specs.Listing.{table_due, table_links, lines_at, tree_fault, tree_answer, tree_room}
-use Rattle.tree.specs.declared.TreeAnswer.{TreeAnswer}
-use Rattle.tree.specs.declared.TreeAnswer.TheVariants as tree
+use Rattle.tree.specs.Answers.{TreeAnswer}
 use Rattle.tree.proofs.Answers.{never_ends, table_id, fault_is, Gives, line_refused, lines_given, not_read_gives}
 use Rattle.claims.specs.Library.{ours}
 use Rattle.claims.specs.Tree.{line_of, IsListing, TableListing, Lists, not_read, listed, too_deep, no_room, TreeClaim}
@@ -94,11 +94,11 @@ module _ (volume : List ℕ) (mark : Bookmark) where
         lines_decide = rw (fault_is volume mark root (length out), s.no_fault, s.lines)
 
         listed_gives : fault_from (length out) 0 paths ≡ 0
-            → Gives volume mark root out (tree.Lines (length paths)) (put out 0 (line_numbers (map line_of paths)))
+            → Gives volume mark root out (Ok (length paths)) (put out 0 (line_numbers (map line_of paths)))
         listed_gives e = rw (← length-map paths line_of, ← s.lines) (lines_given volume mark root out (lines_decide ∙ e))
 
         refused_gives : (number : ℕ) → fault_from (length out) 0 paths ≡ number → (number ≡ 0 → ⊥) → (number ≡ 10 → ⊥)
-            → Gives volume mark root out (tree.Refused (refusal_of number)) out
+            → Gives volume mark root out (Err (refusal_of number)) out
         refused_gives number e = line_refused volume mark root out number (lines_decide ∙ e)
 
       -- What is to be answered is answered.

@@ -1,4 +1,5 @@
 -- Small volumes on which wrong libraries are tried, that they have a reading, and where appends start. Assumes nothing.
+use Rattle.std.specs.Prelude.{None, Ok, Err}
 use Prim.Native.Nat.{ℕ, ◌+◌, ◌^◌, ◌≤◌, ◌<◌}
 use mathlib.Core.Bool.{false}
 use mathlib.Core.Path.{◌≡◌, refl, sym, ap, ◌∙◌, subst}
@@ -15,11 +16,8 @@ use Rattle.format.specs.Headers.{HeaderRules, no_hash, header_fields, header_ima
 use Rattle.format.specs.Readings.{Reading, IsTable, Keeps, images, volume_of, ReadingOf}
 use Rattle.volume.specs.Heading.{first_mark}
 use Rattle.volume.specs.Writing.{append_answer, append_buffer}
-use Rattle.volume.specs.declared.LastTime.TheVariants.{Never}
 use Rattle.volume.specs.declared.Bookmark.{Bookmark}
-use Rattle.volume.specs.declared.Verdict.{Verdict}
-use Rattle.volume.specs.declared.Verdict.TheVariants as verdict
-use Rattle.volume.specs.declared.WriteAnswer.TheVariants.{Next}
+use Rattle.volume.specs.Answers.{Verdict}
 use Rattle.volume.proofs.HeaderImage.{length-header}
 use Rattle.volume.proofs.OneCall.{after}
 use Rattle.claims.specs.Library.{Library, ours}
@@ -70,7 +68,7 @@ bare_data time = Data (record { time = time; payload = [] })
 
 -- a bookmark after so many blocks where no table is due and no time stands before
 abbrev pub untimed : (offset number : ℕ) → Bookmark
-untimed offset number = record { offset = offset; due = false; last = Never; number = number }
+untimed offset number = record { offset = offset; due = false; last = None; number = number }
 
 pub data_long : (time : ℕ) → length (image (bare_data time)) ≡ 21
 unfolding image sealed laid le_bytes
@@ -82,7 +80,7 @@ data_rules time small = record { fit = (small, (omega arith, tt)); bytes = λ i.
 -- it is appended wherever there is room and no last time before it
 pub data_appended : (buffer : List ℕ) (offset number time : ℕ) → time < 256 ^ 8 → 80 ≤ offset → offset + 21 ≤ length buffer
     → offset + 21 ≤ 16777216 → number ≤ offset
-    → (append_answer (length buffer) (untimed offset number) (bare_data time) ≡ Next (after (untimed offset number) (bare_data time)))
+    → (append_answer (length buffer) (untimed offset number) (bare_data time) ≡ Ok (after (untimed offset number) (bare_data time)))
     × (length (append_buffer buffer (untimed offset number) (bare_data time)) ≡ length buffer)
 data_appended buffer offset number time small base room limit few =
     let long = data_long time in
@@ -222,5 +220,5 @@ started library claim same =
     (subst (ReaderGives library (volume_of bare) bare) (sym end) gives.1)
   where
     end_of : Verdict → Bookmark
-    end_of (verdict.Accepted a) = a.end
-    end_of (verdict.Refused r) = first_mark 0
+    end_of (Ok a) = a.end
+    end_of (Err r) = first_mark 0

@@ -1,9 +1,9 @@
 -- The rules between blocks, walked from a bookmark: blocks keep them exactly if each is allowed at the bookmark before it. That each can
 -- be counted is no rule of the format: there are never so many. Assumes nothing.
+use Rattle.std.specs.Prelude.{Option, Some, None}
 use Prim.Native.Nat.{ℕ, zero, suc, ◌+◌, ◌≤◌}
 use mathlib.Core.Path.{◌≡◌, refl, sym, ◌∙◌}
 use mathlib.Core.Bool.{true, false, false≢true}
-use mathlib.Core.Option.{Option, none, some}
 use mathlib.Core.List.{List, [], ◌∷◌}
 use mathlib.Mathlib.Data.Bool.Basic.{eq-false_of_not-eq-true}
 use native.Mathlib.Omega.{arith}
@@ -18,8 +18,7 @@ use Rattle.format.specs.Readings as format
 use Rattle.format.proofs.Images.{length-image}
 use Rattle.block.proofs.Ids.{is_table, table_iff}
 use Rattle.volume.specs.Heading.{first_mark}
-use Rattle.volume.specs.Reading.{as_option, last_with}
-use Rattle.volume.specs.declared.LastTime.{LastTime}
+use Rattle.volume.specs.Reading.{last_with}
 use Rattle.volume.specs.declared.Bookmark.{Bookmark}
 use Rattle.volume.proofs.OneCall.{Allowed, after}
 
@@ -51,15 +50,15 @@ not_table block e t = false≢true (sym e ∙ (table_iff block).1 t)
 table_not : (block : Block) → (IsTable block → ⊥) → is_table block ≡ false
 table_not block n = eq-false_of_not-eq-true (λ e. n ((table_iff block).0 e))
 
-pub last_after_lem : (last : LastTime) (time : Option ℕ) → as_option (last_with last time) ≡ format.last_after (as_option last) time
-last_after_lem last none = refl
-last_after_lem last (some time) = refl
+pub last_after_lem : (last : Option ℕ) (time : Option ℕ) → (last_with last time) ≡ format.last_after last time
+last_after_lem last None = refl
+last_after_lem last (Some time) = refl
 
 -- the rules, where no table is due any more
 abbrev Rules : Option ℕ → List Block → Type 0
 Rules last blocks = All BlockRules blocks × NoTable blocks × TimesFollow last blocks
 
-runs_rules : (mark : Bookmark) (blocks : List Block) → mark.due ≡ false → Runs mark blocks → Rules (as_option mark.last) blocks
+runs_rules : (mark : Bookmark) (blocks : List Block) → mark.due ≡ false → Runs mark blocks → Rules mark.last blocks
 runs_rules mark [] d r = (tt, tt, tt)
 runs_rules mark (block ∷ blocks) d r =
     let others = runs_rules (after mark block) blocks refl r.1 in (
@@ -69,7 +68,7 @@ runs_rules mark (block ∷ blocks) d r =
     )
 
 rules_runs : (mark : Bookmark) (blocks : List Block) → mark.due ≡ false → mark.number + length blocks ≤ top
-    → Rules (as_option mark.last) blocks → Runs mark blocks
+    → Rules mark.last blocks → Runs mark blocks
 rules_runs mark [] d few r = d
 rules_runs mark (block ∷ blocks) d few r = (
   record { place = d ∙ sym (table_not block r.1.0); keeps = r.0.0; time = r.2.0; counted = omega arith },
@@ -78,7 +77,7 @@ rules_runs mark (block ∷ blocks) d few r = (
 
 -- the rules of a whole volume, by its sequence number
 abbrev pub VolumeRules : (sequence : ℕ) → List Block → Type 0
-VolumeRules sequence blocks = All BlockRules blocks × TableRule sequence blocks × TimesFollow none blocks
+VolumeRules sequence blocks = All BlockRules blocks × TableRule sequence blocks × TimesFollow None blocks
 
 above : (n : ℕ) → (first_mark (suc n)).due ≡ true
 above n = lt-ltb 0 (suc n) (omega arith)

@@ -1,4 +1,5 @@
 -- A walk over a volume that has a reading is a fold over the blocks of the reading. Assumes nothing.
+use Rattle.std.specs.Prelude.{Some, Ok}
 use Prim.Native.Nat.{ℕ, ◌≤◌}
 use mathlib.Core.Path.{◌≡◌, ap, ◌∙◌}
 use mathlib.Core.List.{List, [], ◌∷◌}
@@ -13,8 +14,6 @@ use Rattle.volume.specs.inner.Walk.{Way, on_read, walk_from}
 use Rattle.volume.specs.declared.Bookmark.{Bookmark}
 use Rattle.volume.specs.declared.Found.{Found}
 use Rattle.volume.specs.declared.HeaderRead.{HeaderRead}
-use Rattle.volume.specs.declared.HeaderAnswer.TheVariants as head
-use Rattle.volume.specs.declared.ReadAnswer.TheVariants as read
 use Rattle.volume.proofs.Walk.{walk_step}
 use Rattle.volume.proofs.OneCall.{after, read_sound}
 use Rattle.claims.specs.Library.{ours}
@@ -32,7 +31,7 @@ fold at_block at_end mark (block ∷ blocks) = at_block mark block (fold at_bloc
 
 module _ {Answer : Type 0} (volume : List ℕ) (b : Bytes volume) (way : Way Answer) (at_block : AtBlock Answer)
     -- the way takes a block as it is in the format
-    (same : (mark : Bookmark) (found : Found) → read_answer volume mark ≡ read.Found found → (onward : Answer)
+    (same : (mark : Bookmark) (found : Found) → read_answer volume mark ≡ Ok (Some found) → (onward : Answer)
     → way.at_block mark found onward ≡ at_block mark (shown volume found.block) onward) where
   pub walk_over_calls : {number : ℕ} {mark end : Bookmark} {blocks : List Block} → Calls ours volume number mark blocks end
       → walk_from volume way mark ≡ fold at_block way.at_end mark blocks
@@ -46,7 +45,7 @@ module _ {Answer : Type 0} (volume : List ℕ) (b : Bytes volume) (way : Way Ans
       ∙ ap (λ (next : Bookmark). at_block mark block (fold at_block way.at_end next blocks)) (read_sound volume mark found b e).next
 
   pub walk_over_reading : (reading : Reading) → length volume ≤ 16777216 → ReadingOf volume reading
-      → (header : HeaderRead) → header_answer volume ≡ head.Accepted header
+      → (header : HeaderRead) → header_answer volume ≡ Ok header
       → walk_from volume way header.next ≡ fold at_block way.at_end header.next reading.blocks
   walk_over_reading reading small r header e =
       let g = reading_gives volume reading small r in

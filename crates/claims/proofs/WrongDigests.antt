@@ -11,14 +11,14 @@ use Rattle.fips180.specs.Claimed.{EachIsTheDigest}
 use Rattle.fips180.proofs.Vectors.{published_hold}
 use Rattle.sha256.specs.Feeding.{new, finish_answer, whole_answer}
 use Rattle.sha256.specs.declared.Digest.{Digest}
-use Rattle.sha256.specs.declared.Fed.{Fed}
-use Rattle.sha256.specs.declared.Finished.{Finished}
+use Rattle.std.proofs.Common.{Result, Ok}
+use Rattle.refusal.specs.declared.Fault.{Fault}
 use Rattle.claims.specs.Digests.{end_to_end, AllFed, none_left, one_more, DigestClaim}
 use Rattle.claims.specs.Wrong.{feeds_nothing}
 
 stays : {state last : Digest} {parts : List (List ℕ)} → AllFed new feeds_nothing finish_answer whole_answer state parts last → last ≡ state
 stays none_left = refl
-stays (one_more e rest) = stays rest ∙ sym (ap (λ (f : Fed). f.state) e)
+stays (one_more e rest) = stays rest ∙ sym (cc)
 
 differ : sha256 [] ≡ sha256 (ascii "abc") → ⊥
 unfolding EachIsTheDigest be_bytes
@@ -34,6 +34,6 @@ unfolding end_to_end
 feeds_nothing_lem claim =
     let none = claim.whatever_the_cuts [] (omega arith) in
     let some = claim.whatever_the_cuts (ascii "abc" ∷ []) (omega arith) in
-    let both : ◌≡◌ {A = Finished} (record { refusal = 0; digest = sha256 [] }) (record { refusal = 0; digest = sha256 (ascii "abc") })
+    let both : ◌≡◌ {A = Result (List ℕ) Fault} (Ok (sha256 [])) (Ok (sha256 (ascii "abc")))
     = sym none.2 ∙ ap finish_answer (stays none.1 ∙ sym (stays some.1)) ∙ some.2 in
-    differ (ap (λ (f : Finished). f.digest) both)
+    differ (cc both)

@@ -1,5 +1,6 @@
 -- Readers that number blocks from 1 or do not count a table, and appends that do not count, give other numbers than the claim has.
 -- Assumes nothing.
+use Rattle.std.specs.Prelude.{Some, None, Ok, Err}
 use Prim.Native.Nat.{ℕ, suc}
 use mathlib.Core.Path.{◌≡◌, refl, sym, ap, ◌∙◌}
 use mathlib.Core.Bool.{true}
@@ -14,9 +15,7 @@ use Rattle.volume.specs.Heading.{first_mark}
 use Rattle.volume.specs.Reading.{read_answer}
 use Rattle.volume.specs.declared.Bookmark.{Bookmark}
 use Rattle.volume.specs.declared.Found.{Found}
-use Rattle.volume.specs.declared.ReadAnswer.{ReadAnswer}
-use Rattle.volume.specs.declared.ReadAnswer.TheVariants as read
-use Rattle.volume.specs.declared.WriteAnswer.TheVariants as write
+use Rattle.volume.specs.Answers.{ReadAnswer}
 use Rattle.claims.specs.LastNumber.{numbered}
 use Rattle.claims.specs.Demand3Reading.{Calls, ended, handed}
 use Rattle.claims.specs.Demand3.{Judged, none_left, accepted, appends, Demand3}
@@ -25,13 +24,13 @@ use Rattle.claims.proofs.Demand3Reading.{first_given}
 use Rattle.claims.proofs.Tried.{bare, bare_data, data_rules, data_appended, whole, of_reading, two_given, tabled, tabled_header, link_bytes, tabled_keeps, tabled_small, roomy, roomy_long, roomy_bytes, started}
 
 -- No block has the number 0.
-never_zero : (found : Found) (a : ReadAnswer) → one_higher a ≡ read.Found found → found.number ≡ 0 → ⊥
-never_zero found (read.Found other) e zero =
+never_zero : (found : Found) (a : ReadAnswer) → one_higher a ≡ Ok (Some found) → found.number ≡ 0 → ⊥
+never_zero found (Ok (Some other)) e zero =
     let s : record { block = other.block; number = suc other.number; next = other.next } ≡ found = cc in
     let n : suc other.number ≡ found.number = ap (λ (f : Found). f.number) s in
     omega arith
-never_zero found read.End e zero = let z : ◌≡◌ {A = ℕ} 0 1 = cc in omega arith
-never_zero found (read.Refused refusal) e zero = let z : ◌≡◌ {A = ℕ} 0 1 = cc in omega arith
+never_zero found (Ok None) e zero = let z : ◌≡◌ {A = ℕ} 0 1 = cc in omega arith
+never_zero found (Err refusal) e zero = let z : ◌≡◌ {A = ℕ} 0 1 = cc in omega arith
 
 none_first : {volume : List ℕ} {mark end : Bookmark} {block : Block} {blocks : List Block} → Calls numbers_from_one volume 0 mark (block ∷ blocks) end → ⊥
 none_first {volume} {mark} (handed {found = found} e zero calls) = never_zero found (read_answer volume mark) e zero
@@ -40,14 +39,14 @@ pub numbers_from_one_lem : Demand3 numbers_from_one → ⊥
 numbers_from_one_lem claim = none_first (two_given 1 2 numbers_from_one claim (omega arith) (omega arith)).1.blocks
 
 -- After a table the bookmark has the number that it had before.
-same_number : (mark : Bookmark) (found : Found) (a : ReadAnswer) → mark.due ≡ true → same_after_table mark a ≡ read.Found found
+same_number : (mark : Bookmark) (found : Found) (a : ReadAnswer) → mark.due ≡ true → same_after_table mark a ≡ Ok (Some found)
     → found.next.number ≡ mark.number
-same_number mark found (read.Found other) d e =
+same_number mark found (Ok (Some other)) d e =
     let same = rw d at e in
     let s : record { block = other.block; number = other.number; next = numbered mark.number other.next } ≡ found = cc in
     sym (ap (λ (f : Found). f.next.number) s)
-same_number mark found read.End d e = let z : ◌≡◌ {A = ℕ} 0 1 = cc in absurd (omega arith)
-same_number mark found (read.Refused refusal) d e = let z : ◌≡◌ {A = ℕ} 0 1 = cc in absurd (omega arith)
+same_number mark found (Ok None) d e = let z : ◌≡◌ {A = ℕ} 0 1 = cc in absurd (omega arith)
+same_number mark found (Err refusal) d e = let z : ◌≡◌ {A = ℕ} 0 1 = cc in absurd (omega arith)
 
 one_table : {volume : List ℕ} {mark end : Bookmark} {block : Block} → Calls counts_no_table volume 0 mark (block ∷ []) end → mark.due ≡ true
     → end.number ≡ mark.number
@@ -64,7 +63,7 @@ counts_no_table_lem claim =
 
 -- An append that is accepted leaves the number as it was.
 one_accepted : {room : ℕ} {block : Block} {next : Bookmark} {blocks : List Block}
-    → Judged room bare (block ∷ []) (write.Next next ∷ []) blocks → length blocks ≡ 1
+    → Judged room bare (block ∷ []) ((Ok next) ∷ []) blocks → length blocks ≡ 1
 one_accepted (accepted permits none_left) = refl
 
 pub counts_no_append_lem : Demand3 counts_no_append → ⊥

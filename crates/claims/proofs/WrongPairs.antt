@@ -1,4 +1,5 @@
 -- Wrong checks of a pair answer for the header alone and a volume after it what the claim does not allow. Assumes nothing.
+use Rattle.std.specs.Prelude.{Ok, Err}
 use Prim.Native.Nat.{ℕ, suc, ◌≤◌}
 use mathlib.Core.Path.{◌≡◌, refl, sym, ap, ◌∙◌}
 use mathlib.Core.Bool.{Bool, true, cond}
@@ -17,8 +18,8 @@ use Rattle.format.specs.Readings.{Reading, images, volume_of, ReadingOf}
 use Rattle.volume.specs.Heading.{sequence_of}
 use Rattle.volume.proofs.HeaderImage.{header_at, length-header}
 use Rattle.chain.specs.Pairing.{paired}
-use Rattle.chain.specs.declared.Pairing.TheVariants.{Follows, DoesNotFollow}
 use Rattle.chain.proofs.Following.{Following}
+use Rattle.chain.specs.declared.PairFault.TheVariants.{DoesNotFollow}
 use Rattle.claims.specs.Library.{ours}
 use Rattle.claims.specs.Chained.{FollowsOn, PairClaim}
 use Rattle.claims.specs.Wrong.{pairing, any_id, any_hash, no_pair}
@@ -91,7 +92,7 @@ module _ (id previous : List ℕ) (sized : Sized id previous) where
 
   -- both volumes are accepted, so the test decides
   tested : (test : (first second : List ℕ) → Bool)
-      → pairing test before (next id previous) ≡ cond (test before (next id previous)) Follows DoesNotFollow
+      → pairing test before (next id previous) ≡ cond (test before (next id previous)) (Ok tt) (Err DoesNotFollow)
   unfolding paired
   tested test =
       rw (
@@ -103,8 +104,8 @@ module _ (id previous : List ℕ) (sized : Sized id previous) where
   taken : (test : (first second : List ℕ) → Bool) → PairClaim ours (pairing test) → test before (next id previous) ≡ true
       → Following before (next id previous)
   taken test claim e =
-      by_the_bytes ((claim before (next id previous) before_bytes after_bytes Follows).0
-      (tested test ∙ ap (λ (t : Bool). cond t Follows DoesNotFollow) e))
+      by_the_bytes ((claim before (next id previous) before_bytes after_bytes (Ok tt)).0
+      (tested test ∙ ap (λ (t : Bool). cond t (Ok tt) (Err DoesNotFollow)) e))
 
 -- The volume after it has the digest of the header alone.
 with_digest : (id : List ℕ) → length id ≡ 16 → Bytes id → Sized id (sha256 before)
@@ -159,7 +160,7 @@ no_volume_follows claim =
       next_number = refl;
       hash_of_first = refl;
     } in
-    let right = (claim before (next zeros (sha256 before)) before_bytes (after_bytes zeros (sha256 before) sized) Follows).1 on in
+    let right = (claim before (next zeros (sha256 before)) before_bytes (after_bytes zeros (sha256 before) sized) (Ok tt)).1 on in
     let wrong = tested zeros (sha256 before) sized no_pair in
     let z : ◌≡◌ {A = ℕ} 0 1 = cc in
     omega arith

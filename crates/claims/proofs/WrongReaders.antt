@@ -1,8 +1,8 @@
 -- Wrong readers and checks answer for some small volume what the claim does not allow. Where that needs an answer of ours, it comes
 -- from the claim that ours meets. Assumes nothing.
+use Rattle.std.specs.Prelude.{Option, Some, None, Ok, Err}
 use Prim.Native.Nat.{ℕ}
 use mathlib.Core.Path.{◌≡◌, refl, sym, ap, ◌∙◌}
-use mathlib.Core.Option.{Option, some}
 use mathlib.Core.List.{List, []}
 use native.Mathlib.Omega.{arith}
 use lib.ListN.{length}
@@ -20,12 +20,9 @@ use Rattle.volume.specs.Heading.{header_fault, header_answer}
 use Rattle.volume.specs.Reading.{read_answer}
 use Rattle.volume.specs.declared.Bookmark.{Bookmark}
 use Rattle.volume.specs.declared.Found.{Found}
-use Rattle.volume.specs.declared.HeaderAnswer.TheVariants as head
-use Rattle.volume.specs.declared.ReadAnswer.{ReadAnswer}
-use Rattle.volume.specs.declared.ReadAnswer.TheVariants as read
+use Rattle.volume.specs.Answers.{ReadAnswer}
 use Rattle.volume.specs.declared.Rejected.{Rejected}
-use Rattle.volume.specs.declared.Verdict.{Verdict}
-use Rattle.volume.specs.declared.Verdict.TheVariants as verdict
+use Rattle.volume.specs.Answers.{Verdict}
 use Rattle.claims.specs.Library.{ours}
 use Rattle.claims.specs.Demand3Reading.{Calls, ended, handed, RefusedAt, at_the_header, at_a_block}
 use Rattle.claims.specs.Demand3.{Demand3}
@@ -53,11 +50,11 @@ invents_blocks_lem claim =
     omega (arith, bent.1.counted)
   where
     blocks : Verdict → ℕ
-    blocks (verdict.Accepted a) = a.end.number
-    blocks (verdict.Refused r) = r.blocks
+    blocks (Ok a) = a.end.number
+    blocks (Err r) = r.blocks
 
 -- An empty volume is refused at its header, after no block.
-no_header : header_answer [] ≡ head.Refused (refusal_of 2)
+no_header : header_answer [] ≡ Err (refusal_of 2)
 unfolding header_answer header_fault first_fault
 no_header = refl
 
@@ -70,17 +67,17 @@ not_seven rejected (at_a_block e stops) seven =
 
 pub invents_blocks_before_faults_lem : Demand3 invents_blocks_before_faults → ⊥
 invents_blocks_before_faults_lem claim =
-    let right : ours.check [] ≡ verdict.Refused (record { refusal = refusal_of 2; offset = 0; blocks = 0 })
+    let right : ours.check [] ≡ Err (record { refusal = refusal_of 2; offset = 0; blocks = 0 })
     = (demand_3_holds.refused_volumes [] _).1 (at_the_header no_header) in
     not_seven _ ((claim.refused_volumes [] _).0 (ap seven_before right)) refl
 
 -- Of two data blocks with two times, a reader that gives the first again gives one time twice.
-same_block : (volume : List ℕ) (found : Found) (a : ReadAnswer) → first_block volume a ≡ read.Found found → found.block ≡ block_at volume 80
-same_block volume found (read.Found other) e =
+same_block : (volume : List ℕ) (found : Found) (a : ReadAnswer) → first_block volume a ≡ Ok (Some found) → found.block ≡ block_at volume 80
+same_block volume found (Ok (Some other)) e =
     let s : record { block = block_at volume 80; number = other.number; next = other.next } ≡ found = cc in
     ap (λ (f : Found). f.block) (sym s)
-same_block volume found read.End e = let z : ◌≡◌ {A = ℕ} 0 1 = cc in absurd (omega arith)
-same_block volume found (read.Refused refusal) e = let z : ◌≡◌ {A = ℕ} 0 1 = cc in absurd (omega arith)
+same_block volume found (Ok None) e = let z : ◌≡◌ {A = ℕ} 0 1 = cc in absurd (omega arith)
+same_block volume found (Err refusal) e = let z : ◌≡◌ {A = ℕ} 0 1 = cc in absurd (omega arith)
 
 all_the_first : {volume : List ℕ} {number : ℕ} {mark end : Bookmark} {blocks : List Block} → Calls repeats_first volume number mark blocks end
     → All (λ block. block ≡ shown volume (block_at volume 80)) blocks
@@ -92,7 +89,7 @@ pub repeats_first_lem : Demand3 repeats_first → ⊥
 repeats_first_lem claim =
     let gives = two_given 1 2 repeats_first claim (omega arith) (omega arith) in
     let same = all_the_first gives.1.blocks in
-    let times : ◌≡◌ {A = Option ℕ} (some 1) (some 2) = ap time_of (same.0 ∙ sym same.1.0) in
+    let times : ◌≡◌ {A = Option ℕ} (Some 1) (Some 2) = ap time_of (same.0 ∙ sym same.1.0) in
     let z : ◌≡◌ {A = ℕ} 1 2 = cc in
     omega arith
 
@@ -118,13 +115,13 @@ no_links volume (kind.Data b) = refl
 no_links volume (kind.Rename b) = refl
 no_links volume (kind.Table b) = refl
 
-none_found : (volume : List ℕ) (found : Found) (a : ReadAnswer) → without_length a ≡ read.Found found
+none_found : (volume : List ℕ) (found : Found) (a : ReadAnswer) → without_length a ≡ Ok (Some found)
     → links_length (shown volume found.block) ≡ 0
-none_found volume found (read.Found other) e =
+none_found volume found (Ok (Some other)) e =
     let s : record { block = empty_part other.block; number = other.number; next = other.next } ≡ found = cc in
     rw (← ap (λ (f : Found). f.block) s) (no_links volume other.block)
-none_found volume found read.End e = let z : ◌≡◌ {A = ℕ} 0 1 = cc in absurd (omega arith)
-none_found volume found (read.Refused refusal) e = let z : ◌≡◌ {A = ℕ} 0 1 = cc in absurd (omega arith)
+none_found volume found (Ok None) e = let z : ◌≡◌ {A = ℕ} 0 1 = cc in absurd (omega arith)
+none_found volume found (Err refusal) e = let z : ◌≡◌ {A = ℕ} 0 1 = cc in absurd (omega arith)
 
 all_without_links : {volume : List ℕ} {number : ℕ} {mark end : Bookmark} {blocks : List Block} → Calls hands_out_no_links volume number mark blocks end
     → All (λ block. links_length block ≡ 0) blocks

@@ -1,5 +1,6 @@
 -- Wrong repairs answer for small volumes what the claim does not allow: for a torn append another length than before it, for a damaged
 -- block and for a missing table a length at all. Assumes nothing.
+use Rattle.std.specs.Prelude.{Ok, Err}
 use Prim.Native.Nat.{ℕ, ◌≤◌}
 use mathlib.Core.Path.{◌≡◌, refl, sym, ap}
 use mathlib.Core.Bool.{false}
@@ -26,14 +27,11 @@ use Rattle.volume.specs.Checking.{refused_at_a_block, after_the_header}
 use Rattle.volume.specs.inner.Check.{check_answer}
 use Rattle.volume.specs.declared.Bookmark.{Bookmark}
 use Rattle.volume.specs.declared.Rejected.{Rejected}
-use Rattle.volume.specs.declared.HeaderAnswer.TheVariants as head
-use Rattle.volume.specs.declared.Verdict.TheVariants as verdict
 use Rattle.volume.proofs.Steps.{refusal_read}
 use Rattle.volume.proofs.HeaderImage.{HeaderShown, header_complete}
 use Rattle.volume.proofs.Checked.{checked_exactly}
 use Rattle.volume.proofs.OneCall.{Allowed, after}
-use Rattle.repair.specs.declared.RepairAnswer.{RepairAnswer}
-use Rattle.repair.specs.declared.RepairAnswer.TheVariants as repair
+use Rattle.repair.specs.Answers.{RepairAnswer}
 use Rattle.claims.specs.Library.{ours}
 use Rattle.claims.specs.Samples.{first}
 use Rattle.claims.specs.Demand3Reading.{Calls, ended, handed, at_a_block}
@@ -95,8 +93,8 @@ leaves_all_of_a_torn_volume claim =
     let bytes : List ℕ = torn bare bare_keeps bare_bytes (omega (arith, bare_long)) in
     let long = length-append (volume_of bare) (take 1 (image (bare_data 1))) in
     let one_byte : length (take 1 (image (bare_data 1))) ≡ 1 = length-take-le 1 (image (bare_data 1)) (omega (arith, data_long 1)) in
-    let right : leaves_all bytes ≡ repair.Length (length (volume_of bare)) = claim.torn-append (volume_of bare) bare bytes bare_bytes bare_torn in
-    let wrong : leaves_all bytes ≡ repair.Length (length bytes)
+    let right : leaves_all bytes ≡ (Ok (length (volume_of bare))) = claim.torn-append (volume_of bare) bare bytes bare_bytes bare_torn in
+    let wrong : leaves_all bytes ≡ Ok (length bytes)
     = rw (torn_refused (volume_of bare) bare bytes bare_bytes bare_torn, torn_tested (volume_of bare) bare bytes bare_bytes bare_torn) in
     let same : length bytes ≡ length (volume_of bare) = cc in
     omega arith
@@ -139,8 +137,8 @@ tells_damage_where_bytes_are_missing claim =
     let bytes : List ℕ = torn bare bare_keeps bare_bytes (omega (arith, bare_long)) in
     let two : Rejected = record { refusal = refusal_of 2; offset = length (volume_of bare); blocks = 0 } in
     let five : Rejected = record { refusal = refusal_of 5; offset = length (volume_of bare); blocks = 0 } in
-    let right : tells_damage.check bytes ≡ verdict.Refused two = claim (volume_of bare) bare bytes bare_bytes told_torn in
-    let wrong : tells_damage.check bytes ≡ verdict.Refused five
+    let right : tells_damage.check bytes ≡ (Err two) = claim (volume_of bare) bare bytes bare_bytes told_torn in
+    let wrong : tells_damage.check bytes ≡ Err five
     = ap damaged_for_cut (torn_refused (volume_of bare) bare bytes bare_bytes bare_torn) in
     let same : two ≡ five = cc (right, wrong) in
     let z : ◌≡◌ {A = ℕ} 2 5 = ap (λ (r : Rejected). r.refusal.number) same in
@@ -156,9 +154,9 @@ one_torn =
 pub leaves_the_header_alone : RepairClaim ours leaves_header → ⊥
 leaves_the_header_alone claim =
     let bytes : List ℕ = torn (one 1) (one_keeps 1 (omega arith)) (one_bytes 1) (omega (arith, one_long 1)) in
-    let right : leaves_header bytes ≡ repair.Length (length (volume_of (one 1)))
+    let right : leaves_header bytes ≡ Ok (length (volume_of (one 1)))
     = claim.torn-append (volume_of (one 1)) (one 1) bytes (one_bytes 1) one_torn in
-    let wrong : leaves_header bytes ≡ repair.Length 80
+    let wrong : leaves_header bytes ≡ Ok 80
     = rw (torn_refused (volume_of (one 1)) (one 1) bytes (one_bytes 1) one_torn, torn_tested (volume_of (one 1)) (one 1) bytes (one_bytes 1) one_torn) in
     let same : 80 ≡ length (volume_of (one 1)) = cc in
     omega (arith, one_long 1)
@@ -175,11 +173,11 @@ module _ (header : Header) (rules : HeaderRules header) (rest : List ℕ) (small
 
   refused_first : (number : ℕ) → is_end volume (first_mark header.sequence) ≡ false → read_fault volume (first_mark header.sequence) ≡ number
       → (number ≡ 0 → ⊥) → refusal_of number ≡ refusal_with number (texts_at volume 80)
-      → check_answer volume ≡ verdict.Refused (record { refusal = refusal_of number; offset = 80; blocks = 0 })
+      → check_answer volume ≡ Err (record { refusal = refusal_of number; offset = 80; blocks = 0 })
   unfolding header_answer
   refused_first number more fault some told =
       let sequence : sequence_of volume ≡ header.sequence = ap (λ (h : Header). h.sequence) head_shown.shown in
-      let heads : header_answer volume ≡ head.Accepted (record { sequence = header.sequence; next = first_mark header.sequence })
+      let heads : header_answer volume ≡ Ok (record { sequence = header.sequence; next = first_mark header.sequence })
       = rw (head_shown.no_fault, sequence) in
       let stops = sym (refusal_read volume (first_mark header.sequence) number more fault some told) in
       sym ((checked_exactly volume _).0 (after_the_header heads (refused_at_a_block stops)))
@@ -204,17 +202,17 @@ damaged_bytes : Bytes (header_image first ++ damaged_block)
 unfolding all_small
 damaged_bytes = bytes-append (header_image first) damaged_block (header_bytes_lem first first_rules) (small_bytes damaged_block refl)
 
-damaged_refused : check_answer (header_image first ++ damaged_block) ≡ verdict.Refused (record { refusal = refusal_of 5; offset = 80; blocks = 0 })
+damaged_refused : check_answer (header_image first ++ damaged_block) ≡ Err (record { refusal = refusal_of 5; offset = 80; blocks = 0 })
 unfolding refusal_with
 damaged_refused = refused_first first first_rules damaged_block damaged_small 5 damaged_more damaged_fault (λ z. omega arith) refl
 
 -- a length is answered for no volume that is refused with another number
-not_five : {bytes : List ℕ} {answer : RepairAnswer} (n offset blocks : ℕ) → Repairs ours bytes answer → answer ≡ repair.Length n
-    → check_answer bytes ≡ verdict.Refused (record { refusal = refusal_of 5; offset = offset; blocks = blocks }) → ⊥
+not_five : {bytes : List ℕ} {answer : RepairAnswer} (n offset blocks : ℕ) → Repairs ours bytes answer → answer ≡ Ok n
+    → check_answer bytes ≡ Err (record { refusal = refusal_of 5; offset = offset; blocks = blocks }) → ⊥
 not_five n offset blocks (Torn.whole a) e five = let yes = a.1 in let z : ◌≡◌ {A = ℕ} 0 1 = cc in omega arith
 not_five {bytes} n offset blocks (Torn.cut c l) e five =
     let other : Rejected = record { refusal = c.refusal; offset = c.at.offset; blocks = length c.blocks } in
-    let two : check_answer bytes ≡ verdict.Refused other = (refused_volumes bytes other).1 (at_a_block c.sound_header c.stops) in
+    let two : check_answer bytes ≡ (Err other) = (refused_volumes bytes other).1 (at_a_block c.sound_header c.stops) in
     let same : other ≡ record { refusal = refusal_of 5; offset = offset; blocks = blocks } = cc (two, five) in
     omega (arith, c.ends_early, ap (λ (r : Rejected). r.refusal.number) same)
 not_five n offset blocks (Torn.refused f not-cut) e five = let z : ◌≡◌ {A = ℕ} 0 1 = cc in omega arith
@@ -224,8 +222,8 @@ drops_a_damaged_block claim =
     let bytes : List ℕ = header_image first ++ damaged_block in
     let shown : sequence_of bytes ≡ 0
     = ap (λ (h : Header). h.sequence) (head_shown first first_rules damaged_block damaged_small).shown in
-    let wrong : drops_damaged bytes ≡ repair.Length 80 = rw (damaged_refused, shown) in
-    not_five 80 80 0 ((claim.answers bytes (repair.Length 80) damaged_bytes).0 wrong) refl damaged_refused
+    let wrong : drops_damaged bytes ≡ (Ok 80) = rw (damaged_refused, shown) in
+    not_five 80 80 0 ((claim.answers bytes (Ok 80) damaged_bytes).0 wrong) refl damaged_refused
 
 -- The header of volume 1 alone, behind which a table is due.
 abbrev untabled : List ℕ
@@ -235,16 +233,16 @@ untabled_long : length untabled ≡ 80
 unfolding header_image header_fields sealed le_bytes
 untabled_long = refl
 
-untabled_refused : check_answer untabled ≡ verdict.Refused (record { refusal = refusal_of 2; offset = 80; blocks = 0 })
+untabled_refused : check_answer untabled ≡ Err (record { refusal = refusal_of 2; offset = 80; blocks = 0 })
 unfolding is_end read_fault first_fault header_image header_fields sealed le_bytes refusal_with
 untabled_refused = refused_first tabled.header tabled_header [] (omega (arith, untabled_long)) 2 refl refl (λ z. omega arith) refl
 
 pub drops_a_cut_table : RepairClaim ours drops_table → ⊥
 drops_a_cut_table claim =
     let b : Bytes untabled = rw append-nil (header_bytes_lem tabled.header tabled_header) in
-    let wrong : drops_table untabled ≡ repair.Length 80 = rw untabled_refused in
+    let wrong : drops_table untabled ≡ (Ok 80) = rw untabled_refused in
     let l = (claim.longest untabled 80 b wrong).accepted in
-    let yes : ours.check untabled ≡ verdict.Accepted l.0 = rw (take_all 80 untabled (omega (arith, untabled_long))) at l.1 in
+    let yes : ours.check untabled ≡ (Ok l.0) = rw (take_all 80 untabled (omega (arith, untabled_long))) at l.1 in
     let no = untabled_refused in
     let z : ◌≡◌ {A = ℕ} 0 1 = cc in
     omega arith

@@ -1,4 +1,5 @@
 -- Refusals of appends that say the wrong thing of a text, each at one small request. Assumes nothing.
+use Rattle.std.specs.Prelude.{None, Err}
 use Prim.Native.Nat.{ℕ, ◌≤◌, ◌<◌}
 use mathlib.Core.Path.{◌≡◌, refl, sym, ap, ◌∙◌}
 use mathlib.Core.Bool.{false, true, false≢true}
@@ -12,13 +13,11 @@ use Rattle.checks.specs.Checks.{first_fault}
 use Rattle.refusal.specs.Refusal.{refusal_with}
 use Rattle.refusal.specs.Texts.{FirstBad, this_one, a_later_one}
 use Rattle.refusal.specs.inner.FirstBad.{first_bad}
-use Rattle.refusal.specs.declared.Refusal.{Refusal}
+use Rattle.refusal.specs.Refusal.{Refusal}
 use Rattle.format.specs.Blocks.{Block, Link, Xattr, Rename}
 use Rattle.texts.specs.Texts.{texts}
 use Rattle.volume.specs.Writing.{append_fault, append_answer}
-use Rattle.volume.specs.declared.LastTime.TheVariants.{Never}
 use Rattle.volume.specs.declared.Bookmark.{Bookmark}
-use Rattle.volume.specs.declared.WriteAnswer.TheVariants as write
 use Rattle.claims.specs.BadText.{Says, a_bad_text, nothing, BadTextClaim}
 use Rattle.claims.specs.Wrong.{told, telling, in_block, in_last_text, beside_any_number, in_second_part}
 
@@ -47,10 +46,10 @@ first_good (a_later_one good later) h = good
 -- The requests, at the bookmark after the header of volume 0, or with a table due there.
 
 abbrev at_first : Bookmark
-at_first = record { offset = 80; due = false; last = Never; number = 0 }
+at_first = record { offset = 80; due = false; last = None; number = 0 }
 
 abbrev table_due : Bookmark
-table_due = record { offset = 80; due = true; last = Never; number = 0 }
+table_due = record { offset = 80; due = true; last = None; number = 0 }
 
 -- a name, two paths and the name of an xattr, each the byte FF
 abbrev bad_name : Block
@@ -71,19 +70,19 @@ unfolding is_text well_formed_length passed onward char_length begin_length begi
 ff_is_bad = refl
 
 -- what ours answers
-bad_name_lem : append_answer 0 at_first bad_name ≡ write.Refused (record { number = 10; text = 0; start = 0 })
+bad_name_lem : append_answer 0 at_first bad_name ≡ Err (record { number = 10; text = 0; start = 0 })
 unfolding append_answer append_fault first_fault refusal_with first_bad is_text well_formed_length passed onward char_length begin_length begins in_range
 bad_name_lem = refl
 
-bad_paths_lem : append_answer 0 at_first bad_paths ≡ write.Refused (record { number = 10; text = 0; start = 0 })
+bad_paths_lem : append_answer 0 at_first bad_paths ≡ Err (record { number = 10; text = 0; start = 0 })
 unfolding append_answer append_fault first_fault refusal_with first_bad is_text well_formed_length passed onward char_length begin_length begins in_range
 bad_paths_lem = refl
 
-bad_xattr_lem : append_answer 0 at_first bad_xattr ≡ write.Refused (record { number = 10; text = 0; start = 0 })
+bad_xattr_lem : append_answer 0 at_first bad_xattr ≡ Err (record { number = 10; text = 0; start = 0 })
 unfolding append_answer append_fault first_fault refusal_with first_bad is_text well_formed_length passed onward char_length begin_length begins in_range
 bad_xattr_lem = refl
 
-out_of_place : append_answer 0 table_due later_bad ≡ write.Refused (record { number = 8; text = 0; start = 0 })
+out_of_place : append_answer 0 table_due later_bad ≡ Err (record { number = 8; text = 0; start = 0 })
 unfolding append_answer append_fault first_fault refusal_with
 out_of_place = refl
 
@@ -93,7 +92,7 @@ later_start = refl
 
 -- and a library that tells something else in its place
 told_else : (other : Block → Refusal → Refusal) (mark : Bookmark) (block : Block) (refusal : Refusal)
-    → append_answer 0 mark block ≡ write.Refused refusal → (telling other).append 0 mark block ≡ write.Refused (other block refusal)
+    → append_answer 0 mark block ≡ Err refusal → (telling other).append 0 mark block ≡ Err (other block refusal)
 told_else other mark block refusal e = ap (told (other block)) e
 
 -- Each says something that is not so.

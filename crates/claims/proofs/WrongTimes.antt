@@ -1,5 +1,6 @@
 -- A reader that refuses a block at the last time gives no reading with two blocks at one time, and a writer that accepts a lower time
 -- leaves blocks that are no reading. Assumes nothing.
+use Rattle.std.specs.Prelude.{Option, Some, None, Ok, Err}
 use Prim.Native.Nat.{ℕ, ◌+◌}
 use mathlib.Core.Path.{◌≡◌, refl, sym, subst}
 use mathlib.Core.Bool.{Bool, true, false, cond, false≢true}
@@ -15,12 +16,9 @@ use Rattle.request.proofs.Rules.{rules_sized}
 use Rattle.volume.specs.Heading.{first_mark}
 use Rattle.volume.specs.Reading.{last_with, read_answer}
 use Rattle.volume.specs.Writing.{append_buffer}
-use Rattle.volume.specs.declared.LastTime.{LastTime}
 use Rattle.volume.specs.declared.Bookmark.{Bookmark}
 use Rattle.volume.specs.declared.Found.{Found}
-use Rattle.volume.specs.declared.ReadAnswer.{ReadAnswer}
-use Rattle.volume.specs.declared.ReadAnswer.TheVariants as read
-use Rattle.volume.specs.declared.WriteAnswer.TheVariants as write
+use Rattle.volume.specs.Answers.{ReadAnswer}
 use Rattle.volume.proofs.OneCall.{read_sound}
 use Rattle.claims.specs.Demand3Reading.{Calls, ended, handed}
 use Rattle.claims.specs.Demand3.{Judged, none_left, accepted, appends, Demand3}
@@ -30,23 +28,23 @@ use Rattle.claims.proofs.Tried.{bare, bare_data, data_long, data_rules, data_app
 -- The reader.
 
 -- no block has the last time before it
-abbrev OtherTimes : LastTime → List Block → Type 0
+abbrev OtherTimes : Option ℕ → List Block → Type 0
 OtherTimes last [] = Unit {0}
 OtherTimes last (block ∷ blocks) = (is_last last (time_of block) ≡ false) × OtherTimes (last_with last (time_of block)) blocks
 
 -- what it hands out is what ours does, and not at the last time
 module _ (volume : List ℕ) (mark : Bookmark) (found : Found) where
-  not_last : (a : ReadAnswer) → greater_only volume mark a ≡ read.Found found
-      → (a ≡ read.Found found) × (is_last mark.last (time_of (shown volume found.block)) ≡ false)
-  not_last (read.Found other) e = go (is_last mark.last (time_of (shown volume other.block))) refl e
+  not_last : (a : ReadAnswer) → greater_only volume mark a ≡ Ok (Some found)
+      → (a ≡ Ok (Some found)) × (is_last mark.last (time_of (shown volume found.block)) ≡ false)
+  not_last (Ok (Some other)) e = go (is_last mark.last (time_of (shown volume other.block))) refl e
     where
       go : (last : Bool) → is_last mark.last (time_of (shown volume other.block)) ≡ last
-          → cond last (read.Refused (refusal_of 14)) (read.Found other) ≡ read.Found found
-          → (read.Found other ≡ read.Found found) × (is_last mark.last (time_of (shown volume found.block)) ≡ false)
+          → cond {A = ReadAnswer} last (Err (refusal_of 14)) (Ok (Some other)) ≡ Ok (Some found)
+          → (◌≡◌ {A = ReadAnswer} (Ok (Some other)) (Ok (Some found))) × (is_last mark.last (time_of (shown volume found.block)) ≡ false)
       go true l e = let z : ◌≡◌ {A = ℕ} 0 1 = cc in absurd (omega arith)
       go false l e = let same : other ≡ found = cc in (e, subst (λ (f : Found). is_last mark.last (time_of (shown volume f.block)) ≡ false) same l)
-  not_last read.End e = let z : ◌≡◌ {A = ℕ} 0 1 = cc in absurd (omega arith)
-  not_last (read.Refused refusal) e = let z : ◌≡◌ {A = ℕ} 0 1 = cc in absurd (omega arith)
+  not_last (Ok None) e = let z : ◌≡◌ {A = ℕ} 0 1 = cc in absurd (omega arith)
+  not_last (Err refusal) e = let z : ◌≡◌ {A = ℕ} 0 1 = cc in absurd (omega arith)
 
 other_times : {volume : List ℕ} {number : ℕ} {mark end : Bookmark} {blocks : List Block} → Bytes volume
     → Calls refuses_same_time volume number mark blocks end → OtherTimes mark.last blocks
@@ -65,7 +63,7 @@ refuses_same_time_lem claim =
 
 -- a data block at 2 and then one at 1 are no reading
 not_both : {room : ℕ} {first second : Bookmark} {blocks : List Block}
-    → Judged room bare (bare_data 2 ∷ bare_data 1 ∷ []) (write.Next first ∷ write.Next second ∷ []) blocks → ⊥
+    → Judged room bare (bare_data 2 ∷ bare_data 1 ∷ []) ((Ok first) ∷ (Ok second) ∷ []) blocks → ⊥
 not_both (accepted first (accepted second none_left)) = let lower = second.keeps.times.1.0 in omega arith
 
 pub accepts_lower_time_lem : Demand3 accepts_lower_time → ⊥

@@ -1,4 +1,5 @@
 -- Wrong listings of the tree answer otherwise than ours for a table of four links, so that the claim is false of them. Assumes nothing.
+use Rattle.std.specs.Prelude.{Ok, Err}
 use Prim.Native.Nat.{ℕ, ◌≤◌}
 use mathlib.Core.Path.{◌≡◌, refl, sym, ap, ◌∙◌}
 use mathlib.Core.List.{List, [], ◌∷◌}
@@ -9,7 +10,7 @@ use Rattle.number.specs.Number.{Bytes, le, le_bytes, put}
 use Rattle.checks.specs.Checks.{first_fault}
 use Rattle.checks.proofs.Laws.{first_fault-append}
 use Rattle.refusal.specs.Refusal.{refusal_with}
-use Rattle.refusal.specs.declared.Refusal.{Refusal}
+use Rattle.refusal.specs.Refusal.{Refusal}
 use Rattle.utf8.specs.Grammar.{empty}
 use Rattle.utf8.specs.inner.Length.{is_text, well_formed_length, passed, onward, char_length, begin_length, begins, in_range}
 use Rattle.utf8.proofs.Longest.{text_iff_well_formed}
@@ -26,7 +27,7 @@ use Rattle.volume.proofs.OneCall.{read_complete}
 use Rattle.folders.specs.Lines.{Line, places_from, each, entry_lines, tree_lines, line_numbers}
 use Rattle.volume.proofs.Steps.{found_sound}
 use Rattle.tree.specs.Listing.{table_links, lines_order, tree_fault, tree_answer, tree_room}
-use Rattle.tree.specs.declared.TreeAnswer.TheVariants as tree
+use Rattle.tree.specs.Answers.{TreeAnswer}
 use Rattle.tree.proofs.Answers.{read_numbered}
 use Rattle.claims.specs.Library.{ours}
 use Rattle.claims.specs.Tree.{TreeClaim}
@@ -105,10 +106,10 @@ links_there : table_links volume 80 ≡ links
 unfolding volume_of images image header_image header_fields sealed laid le_bytes link_list link_image links_from link_start le
 links_there = refl
 
-one_count : {a b : ℕ} → tree.Lines a ≡ tree.Lines b → a ≡ b
+one_count : {a b : ℕ} → ◌≡◌ {A = TreeAnswer} (Ok a) (Ok b) → a ≡ b
 one_count e = cc
 
-one_refusal : {a b : Refusal} → tree.Refused a ≡ tree.Refused b → a ≡ b
+one_refusal : {a b : Refusal} → ◌≡◌ {A = TreeAnswer} (Err a) (Err b) → a ≡ b
 one_refusal e = cc
 
 -- What such a listing of it answers, by its checks of the lines.
@@ -123,12 +124,12 @@ module _ (order : Order) (shape : Shape) (root : ℕ) (out : List ℕ) where
       ∙ rw (no_fault, links_there)
 
   given : first_fault (order (length out) lines) ≡ 0
-      → (tree_by order shape volume mark root (length out) ≡ tree.Lines (length (shape links lines)))
+      → (tree_by order shape volume mark root (length out) ≡ Ok (length (shape links lines)))
       × (list_by order shape volume mark root out ≡ put out 0 (line_numbers (shape links lines)))
   given e = rw (fault_is, e, links_there) (refl, refl)
 
   refused : (number : ℕ) → first_fault (order (length out) lines) ≡ number → (number ≡ 0 → ⊥)
-      → tree_by order shape volume mark root (length out) ≡ tree.Refused (refusal_with number (texts_at volume 80))
+      → tree_by order shape volume mark root (length out) ≡ Err (refusal_with number (texts_at volume 80))
   refused number e n = rw (fault_is, e, ne_eqb number 0 n)
 
 -- A claim says that ours answers so, too.

@@ -11,7 +11,7 @@ use Rattle.format.specs.Headers.{header_fields, header_image}
 use Rattle.format.specs.Readings.{volume_of}
 use Rattle.request.proofs.Rules.{rules_sized}
 use Rattle.volume.specs.Heading.{first_mark}
-use Rattle.volume.specs.declared.WriteAnswer.{WriteAnswer}
+use Rattle.volume.specs.Answers.{WriteAnswer}
 use Rattle.claims.specs.Demand3.{extended, Judged, none_left, accepted, refused, NoTableDue, appends, Demand3}
 use Rattle.claims.specs.Wrong.{stores_nothing, always_due}
 use Rattle.claims.proofs.Tried.{bare, bare_keeps, bare_long, whole, of_bare, bare_data, data_rules, data_appended, roomy, roomy_long, roomy_bytes, started}

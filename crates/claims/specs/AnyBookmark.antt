@@ -2,17 +2,15 @@
 -- out wherever the rules allow it there. Which of several faults is given otherwise, the order of checks says (`read_order`).
 --
 -- It is a claim about a library, by its calls. Proved of ours in proofs/AnyBookmark.antt.
-use Rattle.std.specs.Prelude.{ℕ, suc, ◌+◌, ◌≤◌, ◌<◌, ◌≡◌, true, false, ◌↔◌, List, [], ◌∷◌, length}
+use Rattle.std.specs.Prelude.{ℕ, suc, ◌+◌, ◌≤◌, ◌<◌, ◌≡◌, true, false, ◌↔◌, List, [], ◌∷◌, length, Some, None, Ok}
 use Rattle.number.specs.Number.{Bytes, part}
 use Rattle.format.specs.Blocks.{Block, kind_of, image, BlockRules}
 use Rattle.format.specs.Readings.{IsTable, time_of, last_after, TimeFollows}
 use Rattle.block.specs.Fields.{fixed_length}
 use Rattle.block.specs.Shown.{shown, parts}
 use Rattle.block.specs.declared.Part.{Part}
-use Rattle.volume.specs.Reading.{as_option}
 use Rattle.volume.specs.declared.Bookmark.{Bookmark}
 use Rattle.volume.specs.declared.Found.{Found}
-use Rattle.volume.specs.declared.ReadAnswer.TheVariants as ReadAnswer
 use Rattle.claims.specs.Library.{Library}
 
 -- The bookmark is a place for the block.
@@ -24,7 +22,7 @@ pub record InPlace (mark : Bookmark) (block : Block) : Type 0 where
 pub record NextAfter (mark : Bookmark) (block : Block) (next : Bookmark) : Type 0 where
   pub offset : next.offset ≡ mark.offset + length (image block)
   pub none_due : next.due ≡ false
-  pub last : as_option next.last ≡ last_after (as_option mark.last) (time_of block)
+  pub last : next.last ≡ last_after mark.last (time_of block)
   pub number : next.number ≡ suc mark.number
 
 -- The rules allow the block at the bookmark of the volume, and its image stands there.
@@ -32,7 +30,7 @@ pub record Stands (volume : List ℕ) (mark : Bookmark) (block : Block) : Type 0
   pub small : length volume ≤ 16777216
   pub in_place : InPlace mark block
   pub keeps : BlockRules block
-  pub time : TimeFollows (as_option mark.last) (time_of block)
+  pub time : TimeFollows mark.last (time_of block)
   -- below 2^64−1, it can be counted
   pub countable : mark.number < 18446744073709551615
   pub image_there : part volume mark.offset (length (image block)) ≡ image block
@@ -54,11 +52,11 @@ module _ (library : Library) where
 
   -- What is claimed of a reading at a bookmark.
   pub record ReadClaim (volume : List ℕ) (mark : Bookmark) : Type 0 where
-    pub handed_out : (found : Found) → library.read volume mark ≡ ReadAnswer.Found found → HandedClaim volume mark found
+    pub handed_out : (found : Found) → library.read volume mark ≡ Ok (Some found) → HandedClaim volume mark found
     pub wherever_it_stands : (block : Block) → Stands volume mark block
-        → (found : Found) × (library.read volume mark ≡ ReadAnswer.Found found) × (shown volume found.block ≡ block)
+        → (found : Found) × (library.read volume mark ≡ Ok (Some found)) × (shown volume found.block ≡ block)
     -- "end" is answered at the volume's length with no table due, and only there
-    pub at_the_end : (library.read volume mark ≡ ReadAnswer.End)
+    pub at_the_end : (library.read volume mark ≡ Ok None)
         ↔ (length volume ≤ 16777216) × (80 ≤ mark.offset) × (mark.offset ≡ length volume) × (mark.due ≡ false)
 
   abbrev pub AnyBookmark : Type 0

@@ -1,10 +1,10 @@
 -- What a refusal says of texts: 10 says which text of the block is bad and where, and every other number says nothing of a text.
 --
 -- It is a claim about a library, by its calls. Proved of ours in proofs/BadText.antt.
-use Rattle.std.specs.Prelude.{ℕ, ◌≡◌, List, [], ◌∷◌, ◌++◌, length}
+use Rattle.std.specs.Prelude.{ℕ, ◌≡◌, List, [], ◌∷◌, ◌++◌, length, Err}
 use Rattle.number.specs.Number.{Bytes, part}
 use Rattle.refusal.specs.Texts.{FirstBad}
-use Rattle.refusal.specs.declared.Refusal.{Refusal}
+use Rattle.refusal.specs.Refusal.{Refusal}
 use Rattle.format.specs.Layout.{Fit}
 use Rattle.format.specs.Blocks.{widths, TableFields, Block, Table, kind_of, fields, body, image}
 use Rattle.format.specs.Headers.{Header}
@@ -12,13 +12,6 @@ use Rattle.links.specs.Links.{link_start}
 use Rattle.texts.specs.Texts.{texts}
 use Rattle.volume.specs.declared.Bookmark.{Bookmark}
 use Rattle.volume.specs.declared.Rejected.{Rejected}
-use Rattle.volume.specs.declared.HeaderAnswer.TheVariants as head
-use Rattle.volume.specs.declared.ReadAnswer.TheVariants as read
-use Rattle.volume.specs.declared.Verdict.TheVariants as verdict
-use Rattle.volume.specs.declared.WriteAnswer.TheVariants as write
-use Rattle.lookup.specs.declared.PositionAnswer.TheVariants as place
-use Rattle.lookup.specs.declared.RunsAnswer.TheVariants as runs
-use Rattle.listing.specs.declared.ListAnswer.TheVariants as list
 use Rattle.claims.specs.Library.{Library}
 
 -- A refusal with the number 10 has the place of a bad text and where that is bad, and any other has 0 and 0.
@@ -60,18 +53,18 @@ module _ (library : Library) where
     pub in_layout_order : (block : Block) → InOrder (body block) (texts block)
     -- calls on the block at an offset
     pub read : (volume : List ℕ) (mark : Bookmark) (refusal : Refusal) → Bytes volume
-        → library.read volume mark ≡ read.Refused refusal → Says (BadAt volume mark.offset) refusal
+        → library.read volume mark ≡ Err refusal → Says (BadAt volume mark.offset) refusal
     pub check : (volume : List ℕ) (rejected : Rejected) → Bytes volume
-        → library.check volume ≡ verdict.Refused rejected → Says (BadAt volume rejected.offset) rejected.refusal
+        → library.check volume ≡ Err rejected → Says (BadAt volume rejected.offset) rejected.refusal
     pub position : (volume : List ℕ) (offset : ℕ) (lengths : List ℕ) (position : ℕ) (refusal : Refusal) → Bytes volume
-        → library.position volume offset lengths position ≡ place.Refused refusal → Says (BadAt volume offset) refusal
+        → library.position volume offset lengths position ≡ Err refusal → Says (BadAt volume offset) refusal
     pub runs : (volume : List ℕ) (offset : ℕ) (lengths : List ℕ) (from to room : ℕ) (refusal : Refusal) → Bytes volume
-        → library.runs volume offset lengths from to room ≡ runs.Refused refusal → Says (BadAt volume offset) refusal
+        → library.runs volume offset lengths from to room ≡ Err refusal → Says (BadAt volume offset) refusal
     -- the block that an append is asked for
     pub append : (room : ℕ) (mark : Bookmark) (block : Block) (refusal : Refusal)
-        → library.append room mark block ≡ write.Refused refusal → Says (BadIn block) refusal
+        → library.append room mark block ≡ Err refusal → Says (BadIn block) refusal
     -- a header and a listing have no texts
-    pub read_header_lem : (volume : List ℕ) (refusal : Refusal) → library.read_header volume ≡ head.Refused refusal → Says BadNowhere refusal
+    pub read_header_lem : (volume : List ℕ) (refusal : Refusal) → library.read_header volume ≡ Err refusal → Says BadNowhere refusal
     pub write_header_lem : (room : ℕ) (header : Header) (refusal : Refusal)
-        → library.write_header room header ≡ write.Refused refusal → Says BadNowhere refusal
-    pub list : (room : ℕ) (volume : List ℕ) (refusal : Refusal) → library.list room volume ≡ list.Refused refusal → Says BadNowhere refusal
+        → library.write_header room header ≡ Err refusal → Says BadNowhere refusal
+    pub list : (room : ℕ) (volume : List ℕ) (refusal : Refusal) → library.list room volume ≡ Err refusal → Says BadNowhere refusal

@@ -2,12 +2,12 @@
 --
 -- It is a claim about the check of a library, and about a call on two volumes that is a parameter too; `ReadingOf` is the format's, and
 -- `sha256` is FIPS 180-4's. Proved of ours, `pair_answer`, in proofs/Chained.antt.
-use Rattle.std.specs.Prelude.{ℕ, suc, ◌≤◌, ◌≡◌, ◌↔◌, List, length}
+use Rattle.std.specs.Prelude.{ℕ, suc, ◌≤◌, ◌≡◌, ◌↔◌, List, length, Err, Ok}
 use Rattle.number.specs.Number.{Bytes}
 use Rattle.fips180.specs.Hash.{sha256}
 use Rattle.format.specs.Readings.{Reading, ReadingOf}
-use Rattle.volume.specs.declared.Verdict.TheVariants as Verdict
-use Rattle.chain.specs.declared.Pairing.{Pairing}
+use Rattle.chain.specs.Answers.{Pairing}
+use Rattle.chain.specs.declared.PairFault.TheVariants.{FirstRefused, SecondRefused, DoesNotFollow}
 use Rattle.claims.specs.Library.{Library}
 use Rattle.claims.specs.Demand3Reading.{IsAccepted}
 
@@ -29,10 +29,10 @@ pub record FollowsOn (first second : List ℕ) : Type 0 where
 module _ (library : Library) where
   -- What each answer says of two volumes. The first volume's refusal comes first, then the second's, each as the check gives it.
   abbrev pub Says : (first second : List ℕ) → Pairing → Type 0
-  Says first second (Pairing.FirstRefused rejected) = library.check first ≡ Verdict.Refused rejected
-  Says first second (Pairing.SecondRefused rejected) = IsAccepted library first × (library.check second ≡ Verdict.Refused rejected)
-  Says first second Pairing.Follows = FollowsOn first second
-  Says first second Pairing.DoesNotFollow = IsAccepted library first × IsAccepted library second × (FollowsOn first second → ⊥)
+  Says first second (Err (FirstRefused rejected)) = library.check first ≡ Err rejected
+  Says first second (Err (SecondRefused rejected)) = IsAccepted library first × (library.check second ≡ Err rejected)
+  Says first second (Ok tt) = FollowsOn first second
+  Says first second (Err DoesNotFollow) = IsAccepted library first × IsAccepted library second × (FollowsOn first second → ⊥)
 
   -- An answer is given exactly if what it says is so.
   abbrev pub PairClaim : (pair : (first second : List ℕ) → Pairing) → Type 0

@@ -4,10 +4,9 @@
 --
 -- It is a claim about a library, by its calls. `lookup_fault` is the number of the first fault by the order of a lookup's checks, or 0
 -- where there is none. Proved of ours in proofs/Demand2.antt.
-use Rattle.std.specs.Prelude.{ℕ, ◌+◌, ◌-◌, ◌*◌, ◌%◌, ◌≤◌, ◌<◌, min, ◌≡◌, ◌⊎◌, ◌↔◌, List, [], ◌∷◌, ◌++◌, length, drop}
+use Rattle.std.specs.Prelude.{ℕ, ◌+◌, ◌-◌, ◌*◌, ◌%◌, ◌≤◌, ◌<◌, min, ◌≡◌, ◌⊎◌, ◌↔◌, List, [], ◌∷◌, ◌++◌, length, drop, Ok, Err}
 use Rattle.number.specs.Number.{Bytes, part}
-use Rattle.refusal.specs.Refusal.{refusal_of}
-use Rattle.refusal.specs.declared.Refusal.{Refusal}
+use Rattle.refusal.specs.Refusal.{Refusal, refusal_of}
 use Rattle.format.specs.declared.Extent.{Extent}
 use Rattle.format.specs.Layout.{laid}
 use Rattle.format.specs.Extents.{extent_widths, extent_fields, kept_length, footprint, ExtentRules, KeepsPosition}
@@ -17,9 +16,8 @@ use Rattle.block.specs.Fields.{size_at, rest_at}
 use Rattle.runs.specs.Positions.{copy_of}
 use Rattle.runs.specs.Runs.{hole, stored, label, IsRuns}
 use Rattle.lookup.specs.Lookup.{entry_count, length_of, lookup_fault}
-use Rattle.lookup.specs.declared.PositionAnswer.{PositionAnswer as Answer}
-use Rattle.lookup.specs.declared.PositionAnswer.TheVariants as PositionAnswer
-use Rattle.lookup.specs.declared.RunsAnswer.TheVariants as RunsAnswer
+use Rattle.lookup.specs.Answers.{PositionAnswer as Answer}
+use Rattle.lookup.specs.declared.Position.TheVariants.{Hole, PastEnd, Stored}
 use Rattle.claims.specs.Library.{Library}
 
 -- The file whose inode block stands at an offset: how many extents it has, and each by its number, counted from 0.
@@ -75,15 +73,15 @@ TrueLengths lengths volumes = (i : ℕ) → i < entry_count lengths → length_o
 
 -- What a run says of the k-th of its positions. Kind 0, with two zeros: a hole. Kind 1: a stored byte, k after the first.
 pub data Says : (kind number start k : ℕ) → Answer → Type 0 where
-  a_hole : {k : ℕ} → Says 0 0 0 k PositionAnswer.Hole
+  a_hole : {k : ℕ} → Says 0 0 0 k (Ok Hole)
   a_byte : {number start k : ℕ}
-      → Says 1 number start k (PositionAnswer.Stored (record { volume = number; offset = record { 0 = start + k } }))
+      → Says 1 number start k (Ok (Stored (record { volume = number; offset = record { 0 = start + k } })))
 
 module _ (library : Library) where
   -- A hole: no extent of the file keeps the position, and the answer says so.
   pub record IsHole (volume : List ℕ) (offset : ℕ) (lengths : List ℕ) (position : ℕ) : Type 0 where
     pub kept_by_none : (index : ℕ) → KeptBy volume offset position index → ⊥
-    pub answer : library.position volume offset lengths position ≡ PositionAnswer.Hole
+    pub answer : library.position volume offset lengths position ≡ Ok Hole
     -- for runs, it is part of a hole
     pub run_label : label (rest_at volume offset) position ≡ hole
 
@@ -95,7 +93,7 @@ module _ (library : Library) where
     pub place : ℕ
     pub is_place : IsPlace (extent_of volume offset keeper) position place
     pub answer : library.position volume offset lengths position
-        ≡ PositionAnswer.Stored (record { volume = (extent_of volume offset keeper).volume; offset = record { 0 = place } })
+        ≡ Ok (Stored (record { volume = (extent_of volume offset keeper).volume; offset = record { 0 = place } }))
     -- the volume has an entry, and the place lies below its length
     pub named : (extent_of volume offset keeper).volume < entry_count lengths
     pub below : place < length_of lengths (extent_of volume offset keeper).volume
@@ -127,11 +125,11 @@ module _ (library : Library) where
     -- with room for five numbers a run, the answer is how many runs there are; the list then begins with their numbers, and the
     -- rest of it is as it was
     pub room_enough : (out : List ℕ) → 5 * length runs ≤ length out
-        → (library.runs volume offset lengths from to (length out) ≡ RunsAnswer.Runs (length runs))
+        → (library.runs volume offset lengths from to (length out) ≡ Ok (length runs))
         × (library.runs_list volume offset lengths from to out ≡ numbers ++ drop (5 * length runs) out)
     -- with less room, the answer is 17 and the list stays
     pub room_too_small : (out : List ℕ) → length out < 5 * length runs
-        → (library.runs volume offset lengths from to (length out) ≡ RunsAnswer.Refused (refusal_of 17))
+        → (library.runs volume offset lengths from to (length out) ≡ Err (refusal_of 17))
         × (library.runs_list volume offset lengths from to out ≡ out)
 
   -- What is claimed of a lookup where all is there: it is answered.
@@ -140,7 +138,7 @@ module _ (library : Library) where
         → IsHole volume offset lengths position ⊎ IsStored volume offset lengths position
     pub never_both : (position : ℕ) → IsHole volume offset lengths position → IsStored volume offset lengths position → ⊥
     pub past_the_end : (position : ℕ) → size_at volume offset ≤ position
-        → library.position volume offset lengths position ≡ PositionAnswer.PastEnd
+        → library.position volume offset lengths position ≡ Ok PastEnd
     pub ranges : (from to : ℕ) → RangeClaim volume offset lengths from to
 
   -- What is claimed of a lookup that is refused: every position and every range gets one refusal, with the number, no position a place
@@ -148,9 +146,9 @@ module _ (library : Library) where
   pub record RefusedClaim (volume : List ℕ) (offset : ℕ) (lengths : List ℕ) (number : ℕ) : Type 0 where
     pub refusal : Refusal
     pub with_the_number : refusal.number ≡ number
-    pub positions : (position : ℕ) → library.position volume offset lengths position ≡ PositionAnswer.Refused refusal
+    pub positions : (position : ℕ) → library.position volume offset lengths position ≡ Err refusal
     pub ranges : (from to : ℕ) (out : List ℕ)
-        → (library.runs volume offset lengths from to (length out) ≡ RunsAnswer.Refused refusal)
+        → (library.runs volume offset lengths from to (length out) ≡ Err refusal)
         × (library.runs_list volume offset lengths from to out ≡ out)
 
   -- Demand 2 on lookup. What is asked about a file is answered if all that the file needs is there, and otherwise refused, with the

@@ -1,9 +1,9 @@
 -- Demand 3, whole: what it says of a volume, and what it says of a list of appends.
 --
 -- It is a claim about a library, by its calls. Proved of ours in proofs/Demand3.antt.
-use Rattle.std.specs.Prelude.{ℕ, ◌≤◌, ◌≡◌, false, ◌↔◌, List, [], ◌∷◌, ◌++◌, length, take, drop}
+use Rattle.std.specs.Prelude.{ℕ, ◌≤◌, ◌≡◌, false, ◌↔◌, List, [], ◌∷◌, ◌++◌, length, take, drop, Some, Ok, Err}
 use Rattle.number.specs.Number.{Bytes}
-use Rattle.refusal.specs.declared.Refusal.{Refusal}
+use Rattle.refusal.specs.Refusal.{Refusal}
 use Rattle.format.specs.Layout.{All}
 use Rattle.format.specs.Blocks.{LinksOf, Block, BlockRules}
 use Rattle.format.specs.Headers.{Header, HeaderRules}
@@ -14,10 +14,7 @@ use Rattle.request.specs.Asking.{Sized}
 use Rattle.volume.specs.Writing.{SizedHeader}
 use Rattle.volume.specs.declared.Bookmark.{Bookmark}
 use Rattle.volume.specs.declared.Found.{Found}
-use Rattle.volume.specs.declared.ReadAnswer.TheVariants as ReadAnswer
-use Rattle.volume.specs.declared.Verdict.TheVariants as Verdict
-use Rattle.volume.specs.declared.WriteAnswer.{WriteAnswer}
-use Rattle.volume.specs.declared.WriteAnswer.TheVariants.{Next, Refused}
+use Rattle.volume.specs.Answers.{WriteAnswer}
 use Rattle.claims.specs.Library.{Library}
 use Rattle.claims.specs.Demand3Reading.{ReaderGives, IsAccepted, ReadingClaim, RefusedVolumes}
 
@@ -31,8 +28,8 @@ pub record Outcome : Type 0 where
 
 -- the bookmark for the next append: the one returned; after a refusal, the one before
 abbrev pub onward : Bookmark → WriteAnswer → Bookmark
-onward mark (Next next) = next
-onward mark (Refused refusal) = mark
+onward mark (Ok next) = next
+onward mark (Err refusal) = mark
 
 abbrev pub answered_first : WriteAnswer → Outcome → Outcome
 answered_first answer others = record { answers = answer ∷ others.answers; buffer = others.buffer; mark = others.mark }
@@ -42,8 +39,8 @@ abbrev pub written : Outcome → List ℕ
 written outcome = take outcome.mark.offset outcome.buffer
 
 abbrev pub IsNext : WriteAnswer → Type 0
-IsNext (Next next) = Unit {0}
-IsNext (Refused refusal) = ⊥
+IsNext (Ok next) = Unit {0}
+IsNext (Err refusal) = ⊥
 
 -- Which blocks may be appended.
 
@@ -67,12 +64,12 @@ pub data Judged (room : ℕ) : (sofar : Reading) → (asked : List Block) → Li
       {sofar : Reading} {block : Block} {asked blocks : List Block} {next : Bookmark} {answers : List WriteAnswer}
       → Permits room sofar block
       → Judged room (extended sofar (block ∷ [])) asked answers blocks
-      → Judged room sofar (block ∷ asked) (Next next ∷ answers) (block ∷ blocks)
+      → Judged room sofar (block ∷ asked) (Ok next ∷ answers) (block ∷ blocks)
   refused :
       {sofar : Reading} {block : Block} {asked blocks : List Block} {refusal : Refusal} {answers : List WriteAnswer}
       → (Permits room sofar block → ⊥)
       → Judged room sofar asked answers blocks
-      → Judged room sofar (block ∷ asked) (Refused refusal ∷ answers) blocks
+      → Judged room sofar (block ∷ asked) (Err refusal ∷ answers) blocks
 
 -- No table is due after a header and blocks: they keep the rule on tables as they stand, so that none is still to come.
 abbrev pub NoTableDue : Reading → Type 0
@@ -97,7 +94,7 @@ module _ (library : Library) where
   -- What is claimed of writing a volume afresh in a buffer.
   pub record FreshClaim (volume : List ℕ) (reading : Reading) (buffer : List ℕ) : Type 0 where
     -- no call refuses
-    pub header_accepted : library.write_header (length buffer) reading.header ≡ Next (first_mark reading.header.sequence)
+    pub header_accepted : library.write_header (length buffer) reading.header ≡ Ok (first_mark reading.header.sequence)
     pub each_append_accepted : All IsNext (written_afresh buffer reading).answers
     -- what stands below the last bookmark is the volume, and nothing else has changed
     pub same_bytes : written (written_afresh buffer reading) ≡ volume
@@ -123,7 +120,7 @@ module _ (library : Library) where
     from_header :
         (before : List ℕ) (header : Header)
         → SizedHeader header
-        → library.write_header (length before) header ≡ Next mark
+        → library.write_header (length before) header ≡ Ok mark
         → library.header_buffer before header ≡ buffer
         → Start buffer mark (record { header = header; blocks = [] })
 
@@ -132,12 +129,12 @@ module _ (library : Library) where
     pub is_reading : ReadingOf volume reading
     pub reader : ReaderGives library volume reading end
     pub check :
-        library.check volume ≡ Verdict.Accepted (record { sequence = reading.header.sequence; end = end })
+        library.check volume ≡ Ok (record { sequence = reading.header.sequence; end = end })
 
   -- A block that is read at a bookmark in a volume is read there in the later one too: same fields, same places of its parts, and the
   -- same bytes in them.
   pub record StillRead (volume later : List ℕ) (mark : Bookmark) (found : Found) : Type 0 where
-    pub same_place : library.read later mark ≡ ReadAnswer.Found found
+    pub same_place : library.read later mark ≡ Ok (Some found)
     pub same_reading : shown later found.block ≡ shown volume found.block
 
   -- What is claimed of a list of appends from a start.
@@ -158,7 +155,7 @@ module _ (library : Library) where
     -- what could be read before is still read
     pub earlier_blocks :
         (at : Bookmark) (found : Found)
-        → library.read (take mark.offset buffer) at ≡ ReadAnswer.Found found
+        → library.read (take mark.offset buffer) at ≡ Ok (Some found)
         → StillRead (take mark.offset buffer) (written outcome) at found
 
   -- Demand 3: the first holds of every volume of at most 16,777,216 bytes, the second of every volume, the third of every start and

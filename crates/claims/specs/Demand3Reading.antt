@@ -2,9 +2,9 @@
 --
 -- It is a claim about a library, by its calls; `HasReading` and `ReadingOf` are the format's. Proved of ours in
 -- proofs/Demand3Reading.antt.
-use Rattle.std.specs.Prelude.{ℕ, suc, ◌≤◌, ◌≡◌, ◌↔◌, List, [], ◌∷◌, length}
+use Rattle.std.specs.Prelude.{ℕ, suc, ◌≤◌, ◌≡◌, ◌↔◌, List, [], ◌∷◌, length, Some, None, Ok, Err}
 use Rattle.number.specs.Number.{Bytes}
-use Rattle.refusal.specs.declared.Refusal.{Refusal}
+use Rattle.refusal.specs.Refusal.{Refusal}
 use Rattle.format.specs.Blocks.{Block}
 use Rattle.format.specs.Readings.{Reading, ReadingOf, HasReading}
 use Rattle.block.specs.Shown.{shown}
@@ -13,19 +13,16 @@ use Rattle.volume.specs.declared.Found.{Found}
 use Rattle.volume.specs.declared.HeaderRead.{HeaderRead}
 use Rattle.volume.specs.declared.Accepted.{Accepted}
 use Rattle.volume.specs.declared.Rejected.{Rejected}
-use Rattle.volume.specs.declared.HeaderAnswer.TheVariants as HeaderAnswer
-use Rattle.volume.specs.declared.ReadAnswer.TheVariants as ReadAnswer
-use Rattle.volume.specs.declared.Verdict.TheVariants as Verdict
 use Rattle.claims.specs.Library.{Library}
 
 module _ (library : Library) where
   -- The reader is called at a bookmark, and then at each bookmark that it returns, until it answers "end". It hands out these
   -- blocks, in this order, with numbers that count on from the one given, and the last bookmark is the one that gets "end".
   pub data Calls (volume : List ℕ) : (number : ℕ) → Bookmark → List Block → Bookmark → Type 0 where
-    ended : {number : ℕ} {mark : Bookmark} → library.read volume mark ≡ ReadAnswer.End → Calls volume number mark [] mark
+    ended : {number : ℕ} {mark : Bookmark} → library.read volume mark ≡ Ok None → Calls volume number mark [] mark
     handed :
         {number : ℕ} {mark end : Bookmark} {found : Found} {blocks : List Block}
-        → library.read volume mark ≡ ReadAnswer.Found found
+        → library.read volume mark ≡ Ok (Some found)
         → found.number ≡ number
         → Calls volume (suc number) found.next blocks end
         → Calls volume number mark (shown volume found.block ∷ blocks) end
@@ -34,7 +31,7 @@ module _ (library : Library) where
   -- number 0, a table too, so that the number of each is that of the blocks before it.
   pub record ReaderGives (volume : List ℕ) (reading : Reading) (end : Bookmark) : Type 0 where
     pub first : Bookmark
-    pub header : library.read_header volume ≡ HeaderAnswer.Accepted (record { sequence = reading.header.sequence; next = first })
+    pub header : library.read_header volume ≡ Ok (record { sequence = reading.header.sequence; next = first })
     pub id : library.file_system_id volume ≡ reading.header.id
     pub previous : library.previous_hash volume ≡ reading.header.previous
     pub blocks : Calls volume 0 first reading.blocks end
@@ -46,18 +43,18 @@ module _ (library : Library) where
   pub data Stops (volume : List ℕ) : (number : ℕ) → Bookmark → List Block → Bookmark → Refusal → Type 0 where
     stopped :
         {number : ℕ} {mark : Bookmark} {refusal : Refusal}
-        → library.read volume mark ≡ ReadAnswer.Refused refusal
+        → library.read volume mark ≡ Err refusal
         → Stops volume number mark [] mark refusal
     handed_before :
         {number : ℕ} {mark at : Bookmark} {found : Found} {blocks : List Block} {refusal : Refusal}
-        → library.read volume mark ≡ ReadAnswer.Found found
+        → library.read volume mark ≡ Ok (Some found)
         → found.number ≡ number
         → Stops volume (suc number) found.next blocks at refusal
         → Stops volume number mark (shown volume found.block ∷ blocks) at refusal
 
   -- The check accepts the volume.
   abbrev pub IsAccepted : (volume : List ℕ) → Type 0
-  IsAccepted volume = (answer : Accepted) × (library.check volume ≡ Verdict.Accepted answer)
+  IsAccepted volume = (answer : Accepted) × (library.check volume ≡ Ok answer)
 
   -- What is claimed of a volume.
   pub record ReadingClaim (volume : List ℕ) : Type 0 where
@@ -71,23 +68,23 @@ module _ (library : Library) where
     pub check_answers_for_the_reading :
         (reading : Reading) (end : Bookmark)
         → ReaderGives volume reading end
-        → library.check volume ≡ Verdict.Accepted (record { sequence = reading.header.sequence; end = end })
+        → library.check volume ≡ Ok (record { sequence = reading.header.sequence; end = end })
     -- and the number of blocks that it gives, the end bookmark's, is that of the reading
     pub check_counts_the_blocks :
         (reading : Reading) (answer : Accepted)
         → ReadingOf volume reading
-        → library.check volume ≡ Verdict.Accepted answer
+        → library.check volume ≡ Ok answer
         → answer.end.number ≡ length reading.blocks
 
   -- Where the reader is refused, and after which blocks: at the header, which begins at 0, or at a block.
   pub data RefusedAt (volume : List ℕ) : Rejected → Type 0 where
     at_the_header :
         {refusal : Refusal}
-        → library.read_header volume ≡ HeaderAnswer.Refused refusal
+        → library.read_header volume ≡ Err refusal
         → RefusedAt volume (record { refusal = refusal; offset = 0; blocks = 0 })
     at_a_block :
         {header : HeaderRead} {blocks : List Block} {at : Bookmark} {refusal : Refusal}
-        → library.read_header volume ≡ HeaderAnswer.Accepted header
+        → library.read_header volume ≡ Ok header
         → Stops volume 0 header.next blocks at refusal
         → RefusedAt volume (record { refusal = refusal; offset = at.offset; blocks = length blocks })
 
@@ -95,7 +92,7 @@ module _ (library : Library) where
   -- does, and counts the blocks that were handed out before.
   abbrev pub RefusedVolumes : Type 0
   RefusedVolumes =
-      (volume : List ℕ) (rejected : Rejected) → (library.check volume ≡ Verdict.Refused rejected) ↔ RefusedAt volume rejected
+      (volume : List ℕ) (rejected : Rejected) → (library.check volume ≡ Err rejected) ↔ RefusedAt volume rejected
 
   -- Demand 3 on reading: all of this holds of every volume of at most 16,777,216 bytes.
   abbrev pub Demand3Reading : Type 0

@@ -7,16 +7,15 @@
 -- `fetch_fault` is the answer of fetch_refusal, and `fetch_part` and `fetch_address` are the bytes of the part that fetch hands out
 -- and where it begins: these calls have the equations in their contracts. `position_answer`, `runs_answer` and `runs_room` are as in
 -- Demand2.antt. Proved in proofs/Fetching.antt.
-use Rattle.std.specs.Prelude.{ℕ, ◌+◌, ◌*◌, ◌≤◌, ◌<◌, ◌≡◌, ◌↔◌, List, [], ◌∷◌, length, get_or}
+use Rattle.std.specs.Prelude.{ℕ, ◌+◌, ◌*◌, ◌≤◌, ◌<◌, ◌≡◌, ◌↔◌, List, [], ◌∷◌, length, get_or, Ok}
 use Rattle.number.specs.Number.{Bytes, part}
 use Rattle.number.specs.Address.{Address, address_in}
 use Rattle.format.specs.Headers.{Header, header_image, HeaderRules}
 use Rattle.lookup.specs.inner.Answers.{position_answer, runs_answer, runs_room}
 use Rattle.lookup.specs.Fetch.{fetch_fault}
 use Rattle.lookup.specs.inner.Part.{fetch_part, fetch_address}
-use Rattle.lookup.specs.declared.PositionAnswer.{PositionAnswer as Answer}
-use Rattle.lookup.specs.declared.PositionAnswer.TheVariants as PositionAnswer
-use Rattle.lookup.specs.declared.RunsAnswer.TheVariants as RunsAnswer
+use Rattle.lookup.specs.Answers.{PositionAnswer as Answer}
+use Rattle.lookup.specs.declared.Position.TheVariants.{Stored}
 use Rattle.claims.specs.Demand2.{TrueLengths}
 
 -- Bytes that are lent: which, and where they begin.
@@ -68,7 +67,7 @@ pub record FetchClaim (first second : Lent) (number offset len : ℕ) : Type 0 w
 
 -- The answer of a lookup for a byte that is stored at this place of the volume with this number.
 abbrev pub stored_answer : (number place : ℕ) → Answer
-stored_answer number place = PositionAnswer.Stored (record { volume = number; offset = record { 0 = place } })
+stored_answer number place = Ok (Stored (record { volume = number; offset = record { 0 = place } }))
 
 -- The file's byte at a position: the lookup of the position names a volume and a place in it, and there it stands.
 pub data FileByte (volume : List ℕ) (offset : ℕ) (lengths : List ℕ) (volumes : ℕ → List ℕ) (position : ℕ) : (byte : ℕ) → Type 0 where
@@ -97,7 +96,7 @@ pub record NamedClaim (volume : List ℕ) (offset : ℕ) (lengths : List ℕ) (v
   -- a run of kind 1 in the list that a range query filled: the fetch of its length from its offset on is not refused, and hands out
   -- the bytes of its positions
   pub the_bytes_of_a_run : (from to : ℕ) (out : List ℕ) (count index start len number place : ℕ) (first second : Lent)
-      → runs_answer volume offset lengths from to (length out) ≡ RunsAnswer.Runs count
+      → runs_answer volume offset lengths from to (length out) ≡ Ok count
       → index < count
       → part (runs_room volume offset lengths from to out) (5 * index) 5 ≡ start ∷ len ∷ 1 ∷ number ∷ place ∷ []
       → Lends volumes first second number

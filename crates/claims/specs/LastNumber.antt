@@ -2,13 +2,11 @@
 -- caller's, for the blocks of a volume are never so many.
 --
 -- It is a claim about a library, by its calls. Proved of ours in proofs/LastNumber.antt.
-use Rattle.std.specs.Prelude.{ℕ, ◌<◌, ◌≡◌, List}
+use Rattle.std.specs.Prelude.{Some, None, Ok, Err, ℕ, ◌<◌, ◌≡◌, List}
 use Rattle.refusal.specs.Refusal.{refusal_of}
 use Rattle.format.specs.Blocks.{Block}
 use Rattle.volume.specs.declared.Bookmark.{Bookmark}
-use Rattle.volume.specs.declared.ReadAnswer.{ReadAnswer}
-use Rattle.volume.specs.declared.ReadAnswer.TheVariants as read
-use Rattle.volume.specs.declared.WriteAnswer.TheVariants as write
+use Rattle.volume.specs.Answers.{ReadAnswer}
 use Rattle.claims.specs.Library.{Library}
 use Rattle.claims.specs.AnyBookmark.{InPlace, NextAfter}
 
@@ -21,9 +19,9 @@ last_number = 18446744073709551615
 
 -- "end" and every refusal of the block stay, and only a block that would be handed out is refused
 abbrev pub uncounted : ReadAnswer → ReadAnswer
-uncounted read.End = read.End
-uncounted (read.Refused refusal) = read.Refused refusal
-uncounted (read.Found found) = read.Refused (refusal_of 9)
+uncounted (Ok None) = Ok None
+uncounted (Err refusal) = Err refusal
+uncounted (Ok (Some found)) = Err (refusal_of 9)
 
 module _ (library : Library) where
   pub record LastNumber : Type 0 where
@@ -32,11 +30,11 @@ module _ (library : Library) where
         → library.read volume (numbered last_number mark) ≡ uncounted (library.read volume (numbered number mark))
     -- in writing it comes right after 8, the refusal of the place, whatever else is at fault, and the buffer stays
     pub out_of_place : (room : ℕ) (mark : Bookmark) (block : Block) → (InPlace mark block → ⊥)
-        → library.append room (numbered last_number mark) block ≡ write.Refused (refusal_of 8)
+        → library.append room (numbered last_number mark) block ≡ Err (refusal_of 8)
     pub in_place : (room : ℕ) (mark : Bookmark) (block : Block) → InPlace mark block
-        → library.append room (numbered last_number mark) block ≡ write.Refused (refusal_of 9)
+        → library.append room (numbered last_number mark) block ≡ Err (refusal_of 9)
     pub buffer_stays : (buffer : List ℕ) (mark : Bookmark) (block : Block)
         → library.append_buffer buffer (numbered last_number mark) block ≡ buffer
     -- at any other number an append that is accepted answers the bookmark after the block, which has been counted
-    pub counts_on : (room : ℕ) (mark next : Bookmark) (block : Block) → library.append room mark block ≡ write.Next next
+    pub counts_on : (room : ℕ) (mark next : Bookmark) (block : Block) → library.append room mark block ≡ Ok next
         → NextAfter mark block next

@@ -12,16 +12,12 @@ use Rattle.volume.specs.Reading.{read_answer}
 use Rattle.volume.specs.inner.Check.{check_answer}
 use Rattle.volume.specs.Writing as writing
 use Rattle.volume.specs.declared.Bookmark.{Bookmark}
-use Rattle.volume.specs.declared.HeaderAnswer.{HeaderAnswer}
-use Rattle.volume.specs.declared.ReadAnswer.{ReadAnswer}
-use Rattle.volume.specs.declared.Verdict.{Verdict}
-use Rattle.volume.specs.declared.WriteAnswer.{WriteAnswer}
+use Rattle.volume.specs.Answers.{HeaderAnswer, ReadAnswer, Verdict, WriteAnswer}
 use Rattle.lookup.specs.inner.Answers as lookup
-use Rattle.lookup.specs.declared.PositionAnswer.{PositionAnswer}
-use Rattle.lookup.specs.declared.RunsAnswer.{RunsAnswer}
+use Rattle.lookup.specs.Answers.{PositionAnswer, RunsAnswer}
 use Rattle.listing.specs.Listing.{list_answer}
 use Rattle.listing.specs.inner.Text.{listing}
-use Rattle.listing.specs.declared.ListAnswer.{ListAnswer}
+use Rattle.listing.specs.Answers.{ListAnswer}
 
 pub record Library : Type 0 where
   -- read_header, file_system_id, previous_hash, Bookmark::read, check

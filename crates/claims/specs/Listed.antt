@@ -2,17 +2,14 @@
 -- `block_line`, `end_line` and `refused_line`.
 --
 -- It is a claim about a library, by its calls. Proved of ours in proofs/Listed.antt.
-use Rattle.std.specs.Prelude.{ℕ, ◌+◌, ◌≤◌, ◌<◌, ◌≡◌, List, [], ◌∷◌, ◌++◌, length, drop}
+use Rattle.std.specs.Prelude.{ℕ, ◌+◌, ◌≤◌, ◌<◌, ◌≡◌, List, [], ◌∷◌, ◌++◌, length, drop, Ok, Err}
 use Rattle.number.specs.Number.{Bytes}
-use Rattle.refusal.specs.Refusal.{refusal_of}
-use Rattle.refusal.specs.declared.Refusal.{Refusal}
+use Rattle.refusal.specs.Refusal.{Refusal, refusal_of}
 use Rattle.format.specs.Blocks.{id_of, Block, kind_of, image}
 use Rattle.format.specs.Readings.{Reading, ReadingOf}
 use Rattle.volume.specs.declared.Bookmark.{Bookmark}
 use Rattle.volume.specs.declared.HeaderRead.{HeaderRead}
-use Rattle.volume.specs.declared.HeaderAnswer.TheVariants as HeaderAnswer
 use Rattle.listing.specs.Listing.{heading_line, block_line, end_line, refused_line}
-use Rattle.listing.specs.declared.ListAnswer.TheVariants.{Written, Refused}
 use Rattle.claims.specs.Library.{Library}
 use Rattle.claims.specs.Demand3Reading.{Stops}
 
@@ -35,13 +32,13 @@ module _ (library : Library) where
     of_a_refused_header :
         (refusal : Refusal)
         → length volume ≤ 65536
-        → library.read_header volume ≡ HeaderAnswer.Refused refusal
+        → library.read_header volume ≡ Err refusal
         → IsListing volume (heading_line ++ refused_line refusal.number 0)
     -- a line for each block that the reader hands out before it is refused; then the refusal, and where it is
     of_a_refused_block :
         (header : HeaderRead) (blocks : List Block) (at : Bookmark) (refusal : Refusal)
         → length volume ≤ 65536
-        → library.read_header volume ≡ HeaderAnswer.Accepted header
+        → library.read_header volume ≡ Ok header
         → Stops library volume 0 header.next blocks at refusal
         → IsListing volume (heading_line ++ (lines_of 80 blocks ++ refused_line refusal.number at.offset))
     -- a volume that is too long to be listed
@@ -55,10 +52,10 @@ module _ (library : Library) where
     pub only : (other : List ℕ) → IsListing volume other → other ≡ text
     -- with room enough list answers its length; the room then begins with it, and the rest of the room is as it was
     pub room_enough : (out : List ℕ) → length text ≤ length out
-        → (library.list (length out) volume ≡ Written (length text)) × (library.list_room out volume ≡ text ++ drop (length text) out)
+        → (library.list (length out) volume ≡ Ok (length text)) × (library.list_room out volume ≡ text ++ drop (length text) out)
     -- with less room, the answer is 17 and the room stays
     pub room_too_small : (out : List ℕ) → length out < length text
-        → (library.list (length out) volume ≡ Refused (refusal_of 17)) × (library.list_room out volume ≡ out)
+        → (library.list (length out) volume ≡ Err (refusal_of 17)) × (library.list_room out volume ≡ out)
 
   -- All of this holds of every volume.
   abbrev pub Listed : Type 0

@@ -3,7 +3,7 @@
 --
 -- A row is a call and what it gives. The calls are check (`check_answer`), Bookmark::read (`read_answer`), position
 -- (`position_answer`) and runs (`runs_answer`, and `runs_room` for the lent list). They are made on the bytes of whole volumes.
-use Rattle.std.specs.Prelude.{ℕ, ◌/◌, ◌≤◌, ◌≡◌, false, List, [], ◌∷◌, ◌++◌, length, drop, replicate}
+use Rattle.std.specs.Prelude.{ℕ, ◌/◌, ◌≤◌, ◌≡◌, false, List, [], ◌∷◌, ◌++◌, length, drop, replicate, Some, Ok, Err}
 use Rattle.number.specs.Number.{le_bytes}
 use Rattle.refusal.specs.Refusal.{refusal_of}
 use Rattle.format.specs.declared.Extent.{Extent}
@@ -19,13 +19,9 @@ use Rattle.block.specs.Shown.{shown}
 use Rattle.volume.specs.Reading.{read_answer}
 use Rattle.volume.specs.inner.Check.{check_answer}
 use Rattle.volume.specs.declared.Bookmark.{Bookmark}
-use Rattle.volume.specs.declared.LastTime.TheVariants.{At}
-use Rattle.volume.specs.declared.ReadAnswer.TheVariants as ReadAnswer
-use Rattle.volume.specs.declared.Verdict.TheVariants as Verdict
 use Rattle.lookup.specs.inner.Answers.{position_answer, runs_answer, runs_room}
-use Rattle.lookup.specs.declared.PositionAnswer.{PositionAnswer}
-use Rattle.lookup.specs.declared.PositionAnswer.TheVariants.{PastEnd}
-use Rattle.lookup.specs.declared.RunsAnswer.TheVariants as RunsAnswer
+use Rattle.lookup.specs.Answers.{PositionAnswer}
+use Rattle.lookup.specs.declared.Position.TheVariants.{PastEnd}
 
 -- an extent, by its fields in layout order
 abbrev pub extent : (volume start size multiplicity count pre post logical : ℕ) → Extent
@@ -77,7 +73,7 @@ with_file file = volume_of (record { header = first; blocks = payload ∷ inode 
 
 -- the bookmark after V's data block
 abbrev pub after_v : Bookmark
-after_v = record { offset = 104; due = false; last = At 1; number = 1 }
+after_v = record { offset = 104; due = false; last = Some 1; number = 1 }
 
 -- the length table: one entry, 104
 abbrev pub lengths : List ℕ
@@ -103,25 +99,25 @@ pub data Row : Type 0 where
 abbrev pub Holds : Row → Type 0
 Holds (check_refuses len number offset) =
     (volume : List ℕ) → length volume ≡ len
-    → check_answer volume ≡ Verdict.Refused (record { refusal = refusal_of number; offset = offset; blocks = 0 })
+    → check_answer volume ≡ Err (record { refusal = refusal_of number; offset = offset; blocks = 0 })
 Holds (read_gives file) =
     (shown (with_file file) (block_at (with_file file) 104) ≡ inode file)
     × (read_answer (with_file file) after_v
-    ≡ ReadAnswer.Found (record {
+    ≡ Ok (Some (record {
       block = block_at (with_file file) 104;
       number = 1;
-      next = record { offset = length (with_file file); due = false; last = At 2; number = 2 };
-    }))
-Holds (read_refuses file number) = read_answer (with_file file) after_v ≡ ReadAnswer.Refused (refusal_of number)
+      next = record { offset = length (with_file file); due = false; last = Some 2; number = 2 };
+    })))
+Holds (read_refuses file number) = read_answer (with_file file) after_v ≡ Err (refusal_of number)
 Holds (kept_length_is file len) = kept_length (extent_at (rest_at (with_file file) 104) 0) ≡ len
 Holds (position_is file position answer) = position_answer (with_file file) 104 lengths position ≡ answer
 Holds (runs_are file from to numbers) =
     (out : List ℕ) → length numbers ≤ length out
-    → (runs_answer (with_file file) 104 lengths from to (length out) ≡ RunsAnswer.Runs (length numbers / 5))
+    → (runs_answer (with_file file) 104 lengths from to (length out) ≡ Ok (length numbers / 5))
     × (runs_room (with_file file) 104 lengths from to out ≡ numbers ++ drop (length numbers) out)
 Holds (runs_refuse file from to room number) =
     (out : List ℕ) → length out ≡ room
-    → (runs_answer (with_file file) 104 lengths from to (length out) ≡ RunsAnswer.Refused (refusal_of number))
+    → (runs_answer (with_file file) 104 lengths from to (length out) ≡ Err (refusal_of number))
     × (runs_room (with_file file) 104 lengths from to out ≡ out)
 
 -- The files of the samples.
@@ -160,7 +156,7 @@ table =
     0 ∷ 1 ∷ 1 ∷ 0 ∷ 97 ∷
     1 ∷ 2 ∷ 0 ∷ 0 ∷ 0 ∷ []
     )
-    ∷ position_is (file_a 0) 3 PastEnd
+    ∷ position_is (file_a 0) 3 (Ok PastEnd)
     ∷ kept_length_is file_b 7
     ∷ runs_are file_b 0 14 (
     0 ∷ 4 ∷ 0 ∷ 0 ∷ 0 ∷

@@ -4,20 +4,18 @@
 -- `read_answer` is the answer of Bookmark::read, `link_answer` of link_at and `link_from` of link_from: these calls have the equations
 -- in their contracts. `link_shown` is the format's link that an answer shows, and `Walked` is what going on from link to link gives.
 -- Proved in proofs/TableLinks.antt.
-use Rattle.std.specs.Prelude.{ℕ, ◌≤◌, ◌≡◌, List, length}
+use Rattle.std.specs.Prelude.{ℕ, ◌≤◌, ◌≡◌, List, length, Some, None, Ok}
 use Rattle.std.proofs.Math.ListN.{get_elem?}
 use Rattle.number.specs.Number.{Bytes}
 use Rattle.format.specs.Blocks.{TableLink, link_list, LinksOf}
 use Rattle.links.specs.Links.{link_answer}
 use Rattle.links.specs.Walked.{link_shown, Walked}
-use Rattle.links.specs.declared.LinkAnswer.TheVariants.{Missing}
 use Rattle.block.specs.Fields.{bytes_of}
 use Rattle.block.specs.declared.TableBlock.{TableBlock}
 use Rattle.block.specs.declared.Block.TheVariants.{Table}
 use Rattle.volume.specs.Reading.{read_answer}
 use Rattle.volume.specs.declared.Bookmark.{Bookmark}
 use Rattle.volume.specs.declared.Found.{Found}
-use Rattle.volume.specs.declared.ReadAnswer.TheVariants as ReadAnswer
 
 -- What is claimed of a table that shows these links. `part` is the part of the volume that is handed out with it, and `count` the number.
 pub record TableClaim (part : List ℕ) (count : ℕ) (links : List TableLink) : Type 0 where
@@ -26,7 +24,7 @@ pub record TableClaim (part : List ℕ) (count : ℕ) (links : List TableLink) :
   pub count_is_theirs : count ≡ length links
   -- link_at shows the link with that number, and none where the links are not so many
   pub by_number : (index : ℕ) → link_shown part (link_answer part count index) ≡ get_elem? links index
-  pub not_so_many : (index : ℕ) → length links ≤ index → link_answer part count index ≡ Missing
+  pub not_so_many : (index : ℕ) → length links ≤ index → link_answer part count index ≡ None
   -- link_from, called at 0 and then where the last link ended, gives all the links in order, and then none
   pub in_order : Walked part 0 links
 
@@ -35,6 +33,6 @@ pub record TableClaim (part : List ℕ) (count : ℕ) (links : List TableLink) :
 abbrev pub TableLinks : Type 0
 TableLinks =
     (volume : List ℕ) (mark : Bookmark) (found : Found) (table : TableBlock) → Bytes volume
-    → read_answer volume mark ≡ ReadAnswer.Found found → found.block ≡ Table table
+    → read_answer volume mark ≡ Ok (Some found) → found.block ≡ Table table
     → (of : LinksOf table.count (bytes_of volume table.links))
     × TableClaim (bytes_of volume table.links) table.count of.links

@@ -2,20 +2,16 @@
 --
 -- It is a claim about a library, and about a call on one volume that is a parameter too. Proved of ours, `repair_answer`, in
 -- proofs/Torn.antt and proofs/Repaired.antt.
-use Rattle.std.specs.Prelude.{ℕ, ◌≤◌, ◌<◌, ◌≡◌, false, ◌↔◌, List, ◌++◌, length, take}
+use Rattle.std.specs.Prelude.{ℕ, ◌≤◌, ◌<◌, ◌≡◌, false, ◌↔◌, List, ◌++◌, length, take, Ok, Err}
 use Rattle.number.specs.Number.{Bytes}
-use Rattle.refusal.specs.Refusal.{refusal_of}
-use Rattle.refusal.specs.declared.Refusal.{Refusal}
+use Rattle.refusal.specs.Refusal.{Refusal, refusal_of}
 use Rattle.format.specs.Blocks.{Block, image}
 use Rattle.format.specs.Readings.{Reading}
 use Rattle.request.specs.Asking.{Sized}
 use Rattle.volume.specs.declared.Bookmark.{Bookmark}
 use Rattle.volume.specs.declared.HeaderRead.{HeaderRead}
 use Rattle.volume.specs.declared.Rejected.{Rejected}
-use Rattle.volume.specs.declared.HeaderAnswer.TheVariants as HeaderAnswer
-use Rattle.volume.specs.declared.Verdict.TheVariants as Verdict
-use Rattle.volume.specs.declared.WriteAnswer.TheVariants.{Next}
-use Rattle.repair.specs.declared.RepairAnswer.{RepairAnswer}
+use Rattle.repair.specs.Answers.{RepairAnswer}
 use Rattle.claims.specs.Library.{Library}
 use Rattle.claims.specs.Demand3Reading.{ReaderGives, Stops, IsAccepted}
 
@@ -30,7 +26,7 @@ module _ (library : Library) where
     pub block : Block
     pub sized : Sized block
     pub next : Bookmark
-    pub appended : library.append room end block ≡ Next next
+    pub appended : library.append room end block ≡ Ok next
     pub stored : ℕ
     pub some : 0 < stored
     pub not_all : stored < length (image block)
@@ -43,7 +39,7 @@ module _ (library : Library) where
       → Bytes volume
       → TornAppend volume reading torn
       → library.check torn
-      ≡ Verdict.Refused (record { refusal = refusal_of 2; offset = length volume; blocks = length reading.blocks })
+      ≡ Err (record { refusal = refusal_of 2; offset = length volume; blocks = length reading.blocks })
 
   -- A volume whose first fault is 2 at a block other than the table: so the reader is refused, at a bookmark where no table is due.
   pub record CutInBlock (volume : List ℕ) : Type 0 where
@@ -51,7 +47,7 @@ module _ (library : Library) where
     pub blocks : List Block
     pub at : Bookmark
     pub refusal : Refusal
-    pub sound_header : library.read_header volume ≡ HeaderAnswer.Accepted header
+    pub sound_header : library.read_header volume ≡ Ok header
     pub stops : Stops library volume 0 header.next blocks at refusal
     pub ends_early : refusal.number ≡ 2
     pub no_table : at.due ≡ false
@@ -65,25 +61,25 @@ module _ (library : Library) where
   -- What is to be answered for a volume.
   pub data Repairs (volume : List ℕ) : RepairAnswer → Type 0 where
     -- an accepted volume: its own length
-    whole : IsAccepted library volume → Repairs volume (RepairAnswer.Length (length volume))
+    whole : IsAccepted library volume → Repairs volume (Ok (length volume))
     -- one that is cut in a block: the length of its longest accepted beginning
-    cut : {n : ℕ} → CutInBlock volume → LongestAccepted volume n → Repairs volume (RepairAnswer.Length n)
+    cut : {n : ℕ} → CutInBlock volume → LongestAccepted volume n → Repairs volume (Ok n)
     -- any other: the refusal of its first fault
     refused :
         {rejected : Rejected}
-        → library.check volume ≡ Verdict.Refused rejected
+        → library.check volume ≡ Err rejected
         → (CutInBlock volume → ⊥)
-        → Repairs volume (RepairAnswer.Refused rejected.refusal)
+        → Repairs volume (Err rejected.refusal)
 
   -- What is claimed of repairing.
   pub record RepairClaim (repair : (volume : List ℕ) → RepairAnswer) : Type 0 where
     -- this is answered and nothing else
     pub answers : (volume : List ℕ) (answer : RepairAnswer) → Bytes volume → (repair volume ≡ answer) ↔ Repairs volume answer
     -- whatever length is answered, that beginning is accepted and no longer one is
-    pub longest : (volume : List ℕ) (n : ℕ) → Bytes volume → repair volume ≡ RepairAnswer.Length n → LongestAccepted volume n
+    pub longest : (volume : List ℕ) (n : ℕ) → Bytes volume → repair volume ≡ Ok n → LongestAccepted volume n
     -- where an append was torn, what is left is the volume before it
     pub torn-append :
         (volume : List ℕ) (reading : Reading) (torn : List ℕ)
         → Bytes volume
         → TornAppend volume reading torn
-        → repair torn ≡ RepairAnswer.Length (length volume)
+        → repair torn ≡ Ok (length volume)

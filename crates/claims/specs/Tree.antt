@@ -2,13 +2,12 @@
 --
 -- It is a claim about the reader of a library, and about a call that is a parameter too, with the lent list after it. Proved of ours,
 -- `tree_answer` and `tree_room`, in proofs/Tree.antt; that the links of every table have one listing, in proofs/Paths.antt.
-use Rattle.std.specs.Prelude.{ℕ, suc, ◌*◌, ◌-◌, ◌≤◌, ◌<◌, ◌≡◌, ◌↔◌, length, get_or}
+use Rattle.std.specs.Prelude.{ℕ, suc, ◌*◌, ◌-◌, ◌≤◌, ◌<◌, ◌≡◌, ◌↔◌, length, get_or, Some, Ok, Err}
 use Rattle.std.proofs.Math.Option.{some}
 use mathlib.Core.List.{List, [], ◌∷◌, map, Memᴰ as StandsIn}
 use Rattle.std.proofs.Math.ListN.{get_elem?}
 use Rattle.number.specs.Number.{Bytes, put}
-use Rattle.refusal.specs.Refusal.{refusal_of}
-use Rattle.refusal.specs.declared.Refusal.{Refusal}
+use Rattle.refusal.specs.Refusal.{Refusal, refusal_of}
 use Rattle.format.specs.Layout.{All}
 use Rattle.format.specs.Blocks.{TableLink, LinksOf}
 use Rattle.block.specs.Fields.{bytes_of}
@@ -16,10 +15,9 @@ use Rattle.block.specs.declared.TableBlock.{TableBlock}
 use Rattle.block.specs.declared.Block.TheVariants.{Table}
 use Rattle.volume.specs.declared.Bookmark.{Bookmark}
 use Rattle.volume.specs.declared.Found.{Found}
-use Rattle.volume.specs.declared.ReadAnswer.TheVariants as ReadAnswer
 use Rattle.folders.specs.Lines.{Line, line_numbers}
 use Rattle.tree.specs.Listing.{table_due}
-use Rattle.tree.specs.declared.TreeAnswer.{TreeAnswer}
+use Rattle.tree.specs.Answers.{TreeAnswer}
 use Rattle.claims.specs.Library.{Library}
 
 -- A path down from a folder, by the places of its links among the table's links: the folder is the parent of the first link, and the
@@ -81,7 +79,7 @@ module _ (library : Library) where
   pub record TableListing (volume : List ℕ) (mark : Bookmark) (root : ℕ) (paths : List (List ℕ)) : Type 0 where
     pub found : Found
     pub table : TableBlock
-    pub read : library.read volume (table_due mark) ≡ ReadAnswer.Found found
+    pub read : library.read volume (table_due mark) ≡ Ok (Some found)
     pub is_table_lem : found.block ≡ Table table
     pub links : LinksOf table.count (bytes_of volume table.links)
     pub is_listing : IsListing links.links root paths
@@ -91,14 +89,14 @@ module _ (library : Library) where
     -- the refusals of reading the table come first
     not_read :
         {refusal : Refusal}
-        → library.read volume (table_due mark) ≡ ReadAnswer.Refused refusal
-        → Lists volume mark root out (TreeAnswer.Refused refusal) out
+        → library.read volume (table_due mark) ≡ Err refusal
+        → Lists volume mark root out (Err refusal) out
     -- every line can be given: two numbers a line go to the list
     listed :
         {paths : List (List ℕ)}
         → TableListing volume mark root paths
         → FirstCanBeGiven (length out) (length paths) paths
-        → Lists volume mark root out (TreeAnswer.Lines (length paths)) (put out 0 (line_numbers (map line_of paths)))
+        → Lists volume mark root out (Ok (length paths)) (put out 0 (line_numbers (map line_of paths)))
     -- the first line that can't be given decides: 24 for its depth,
     too_deep :
         {paths : List (List ℕ)} (before : ℕ) {path : List ℕ}
@@ -106,7 +104,7 @@ module _ (library : Library) where
         → FirstCanBeGiven (length out) before paths
         → get_elem? paths before ≡ some path
         → (line_of path).depth ≡ 32
-        → Lists volume mark root out (TreeAnswer.Refused (refusal_of 24)) out
+        → Lists volume mark root out (Err (refusal_of 24)) out
     -- else 17 for room
     no_room :
         {paths : List (List ℕ)} (before : ℕ) {path : List ℕ}
@@ -115,7 +113,7 @@ module _ (library : Library) where
         → get_elem? paths before ≡ some path
         → (line_of path).depth < 32
         → length out < 2 * suc before
-        → Lists volume mark root out (TreeAnswer.Refused (refusal_of 17)) out
+        → Lists volume mark root out (Err (refusal_of 17)) out
 
   -- What is claimed of listing the tree: this is answered and nothing else, and the list then holds this and nothing else. One of these
   -- is always to be answered: where a table is due, the reader finds one or refuses.

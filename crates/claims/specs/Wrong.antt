@@ -5,16 +5,14 @@
 -- WrongCalls.antt.
 --
 -- What a wrong library answers is what ours does, but for the calls named. Proved in proofs/Wrong.antt.
-use Rattle.std.specs.Prelude.{ℕ, suc, ◌+◌, ◌-◌, Bool, true, false, not, cond, ◌&&◌, ◌||◌, List, [], ◌++◌, eqb, length}
-use Rattle.std.proofs.Math.Option.{Option, none, some}
+use Rattle.std.specs.Prelude.{ℕ, suc, ◌+◌, ◌-◌, Bool, true, false, not, cond, ◌&&◌, ◌||◌, List, [], ◌++◌, eqb, length, Option, Some, None, Result, Ok, Err}
 use Rattle.number.specs.Number.{put}
 use Rattle.number.specs.inner.Same.{same_bytes}
-use Rattle.refusal.specs.Refusal.{refusal_of}
+use Rattle.refusal.specs.Refusal.{Refusal, refusal_of}
 use Rattle.refusal.specs.inner.FirstBad.{first_bad}
-use Rattle.refusal.specs.declared.Refusal.{Refusal}
 use Rattle.fips180.specs.Hash.{sha256}
 use Rattle.sha256.specs.declared.Digest.{Digest}
-use Rattle.sha256.specs.declared.Fed.{Fed}
+use Rattle.refusal.specs.declared.Fault.{Fault}
 use Rattle.sha256.specs.Feeding.{new, finish_answer, whole_answer}
 use Rattle.format.specs.Blocks as format
 use Rattle.format.specs.Headers.{Header}
@@ -26,26 +24,15 @@ use Rattle.block.specs.declared.Block.{Block}
 use Rattle.block.specs.declared.Block.TheVariants as block
 use Rattle.texts.specs.Texts.{texts}
 use Rattle.volume.specs.Heading.{header_bytes, sequence_of}
-use Rattle.volume.specs.declared.LastTime.{LastTime}
-use Rattle.volume.specs.declared.LastTime.TheVariants.{Never, At}
 use Rattle.volume.specs.declared.Bookmark.{Bookmark}
-use Rattle.volume.specs.declared.HeaderAnswer.TheVariants as head
-use Rattle.volume.specs.declared.ReadAnswer.{ReadAnswer}
-use Rattle.volume.specs.declared.ReadAnswer.TheVariants as read
-use Rattle.volume.specs.declared.Verdict.{Verdict}
-use Rattle.volume.specs.declared.Verdict.TheVariants as verdict
-use Rattle.volume.specs.declared.WriteAnswer.{WriteAnswer}
-use Rattle.volume.specs.declared.WriteAnswer.TheVariants as write
+use Rattle.volume.specs.Answers.{ReadAnswer, Verdict, WriteAnswer}
 use Rattle.chain.specs.Pairing.{paired}
-use Rattle.chain.specs.declared.Pairing.{Pairing}
+use Rattle.chain.specs.Answers.{Pairing}
 use Rattle.repair.specs.Repairing.{in_header, in_table, is_torn}
-use Rattle.repair.specs.declared.RepairAnswer.{RepairAnswer}
-use Rattle.repair.specs.declared.RepairAnswer.TheVariants as repair
-use Rattle.lookup.specs.declared.PositionAnswer.{PositionAnswer}
-use Rattle.lookup.specs.declared.PositionAnswer.TheVariants as place
-use Rattle.lookup.specs.declared.RunsAnswer.TheVariants as runs
+use Rattle.repair.specs.Answers.{RepairAnswer}
+use Rattle.lookup.specs.Answers.{PositionAnswer}
 use Rattle.listing.specs.Listing.{heading_line, end_line}
-use Rattle.listing.specs.declared.ListAnswer.TheVariants as list
+use Rattle.lookup.specs.declared.Position.TheVariants.{Hole, PastEnd, Stored}
 use Rattle.claims.specs.Library.{Library, ours}
 use Rattle.claims.specs.LastNumber.{numbered}
 use Rattle.claims.specs.BadText.{BadTextClaim}
@@ -104,28 +91,28 @@ looking position =
 abbrev pub refuses_all : Library
 refuses_all =
     record {
-      read_header = λ volume. head.Refused (refusal_of 2);
+      read_header = λ volume. Err (refusal_of 2);
       file_system_id = λ volume. [];
       previous_hash = λ volume. [];
-      read = λ volume mark. read.Refused (refusal_of 2);
-      check = λ volume. verdict.Refused (record { refusal = refusal_of 2; offset = 0; blocks = 0 });
-      write_header = λ room header. write.Refused (refusal_of 17);
+      read = λ volume mark. Err (refusal_of 2);
+      check = λ volume. Err (record { refusal = refusal_of 2; offset = 0; blocks = 0 });
+      write_header = λ room header. Err (refusal_of 17);
       header_buffer = λ buffer header. buffer;
-      append = λ room mark request. write.Refused (refusal_of 17);
+      append = λ room mark request. Err (refusal_of 17);
       append_buffer = λ buffer mark request. buffer;
-      position = λ volume offset lengths position. place.Refused (refusal_of 9);
-      runs = λ volume offset lengths from to room. runs.Refused (refusal_of 9);
+      position = λ volume offset lengths position. Err (refusal_of 9);
+      runs = λ volume offset lengths from to room. Err (refusal_of 9);
       runs_list = λ volume offset lengths from to out. out;
-      list = λ room volume. list.Refused (refusal_of 17);
+      list = λ room volume. Err (refusal_of 17);
       list_room = λ out volume. out;
     }
 
 -- one answers every lookup "hole", one with a fixed place
 abbrev pub holes_only : Library
-holes_only = looking (λ volume offset lengths position. place.Hole)
+holes_only = looking (λ volume offset lengths position. (Ok Hole))
 
 abbrev pub one_place_only : Library
-one_place_only = looking (λ volume offset lengths position. place.Stored (record { volume = 0; offset = record { 0 = 97 } }))
+one_place_only = looking (λ volume offset lengths position. Ok (Stored (record { volume = 0; offset = record { 0 = 97 } })))
 
 -- a writer that stores nothing
 abbrev pub stores_nothing : Library
@@ -135,17 +122,17 @@ stores_nothing =
 
 -- a reader that is right in the first block and repeats it for the rest
 abbrev pub first_block : (volume : List ℕ) → ReadAnswer → ReadAnswer
-first_block volume (read.Found found) = read.Found (record { block = block_at volume 80; number = found.number; next = found.next })
-first_block volume read.End = read.End
-first_block volume (read.Refused refusal) = read.Refused refusal
+first_block volume (Ok (Some found)) = Ok (Some (record { block = block_at volume 80; number = found.number; next = found.next }))
+first_block volume (Ok None) = Ok None
+first_block volume (Err refusal) = Err refusal
 
 abbrev pub repeats_first : Library
 repeats_first = reading (λ volume mark. first_block volume (ours.read volume mark))
 
 -- a check that invents its number of blocks
 abbrev pub seven_of : Verdict → Verdict
-seven_of (verdict.Accepted a) = verdict.Accepted (record { sequence = a.sequence; end = numbered 7 a.end })
-seven_of (verdict.Refused r) = verdict.Refused r
+seven_of (Ok a) = Ok (record { sequence = a.sequence; end = numbered 7 a.end })
+seven_of (Err r) = Err r
 
 abbrev pub invents_blocks : Library
 invents_blocks = checking (λ volume. seven_of (ours.check volume))
@@ -160,18 +147,18 @@ invents_listed_blocks =
 
 -- a hole wherever a lookup is to be refused
 abbrev pub hole_for : PositionAnswer → PositionAnswer
-hole_for place.Hole = place.Hole
-hole_for place.PastEnd = place.PastEnd
-hole_for (place.Stored stored) = place.Stored stored
-hole_for (place.Refused refusal) = place.Hole
+hole_for (Ok Hole) = Ok Hole
+hole_for (Ok PastEnd) = Ok PastEnd
+hole_for (Ok (Stored stored)) = Ok (Stored stored)
+hole_for (Err refusal) = Ok Hole
 
 abbrev pub holes_where_refused : Library
 holes_where_refused = looking (λ volume offset lengths position. hole_for (ours.position volume offset lengths position))
 
 -- seven blocks before every fault
 abbrev pub seven_before : Verdict → Verdict
-seven_before (verdict.Accepted a) = verdict.Accepted a
-seven_before (verdict.Refused r) = verdict.Refused (record { refusal = r.refusal; offset = r.offset; blocks = 7 })
+seven_before (Ok a) = Ok a
+seven_before (Err r) = Err (record { refusal = r.refusal; offset = r.offset; blocks = 7 })
 
 abbrev pub invents_blocks_before_faults : Library
 invents_blocks_before_faults = checking (λ volume. seven_before (ours.check volume))
@@ -188,17 +175,17 @@ empty_part (block.Rename b) = block.Rename b
 empty_part (block.Table b) = block.Table (record { count = b.count; links = record { offset = b.links.offset; len = 0 } })
 
 abbrev pub without_length : ReadAnswer → ReadAnswer
-without_length (read.Found found) = read.Found (record { block = empty_part found.block; number = found.number; next = found.next })
-without_length read.End = read.End
-without_length (read.Refused refusal) = read.Refused refusal
+without_length (Ok (Some found)) = Ok (Some (record { block = empty_part found.block; number = found.number; next = found.next }))
+without_length (Ok None) = Ok None
+without_length (Err refusal) = Err refusal
 
 abbrev pub hands_out_no_links : Library
 hands_out_no_links = reading (λ volume mark. without_length (ours.read volume mark))
 
 -- bookmarks that say after every append that a table is due
 abbrev pub due_after : WriteAnswer → WriteAnswer
-due_after (write.Next mark) = write.Next (record { offset = mark.offset; due = true; last = mark.last; number = mark.number })
-due_after (write.Refused refusal) = write.Refused refusal
+due_after (Ok mark) = Ok (record { offset = mark.offset; due = true; last = mark.last; number = mark.number })
+due_after (Err refusal) = Err refusal
 
 abbrev pub always_due : Library
 always_due =
@@ -208,24 +195,24 @@ always_due =
 -- Wrong about times.
 
 -- whether a time is the last one
-abbrev pub is_last : LastTime → (time : Option ℕ) → Bool
-is_last Never time = false
-is_last (At last) none = false
-is_last (At last) (some time) = eqb last time
+abbrev pub is_last : Option ℕ → (time : Option ℕ) → Bool
+is_last None time = false
+is_last (Some last) None = false
+is_last (Some last) (Some time) = eqb last time
 
 -- a reader that asks for a greater time: it refuses a block whose time is the last one
 abbrev pub greater_only : (volume : List ℕ) → Bookmark → ReadAnswer → ReadAnswer
-greater_only volume mark (read.Found found) =
-    cond (is_last mark.last (time_of (shown volume found.block))) (read.Refused (refusal_of 14)) (read.Found found)
-greater_only volume mark read.End = read.End
-greater_only volume mark (read.Refused refusal) = read.Refused refusal
+greater_only volume mark (Ok (Some found)) =
+    cond (is_last mark.last (time_of (shown volume found.block))) (Err (refusal_of 14)) (Ok (Some found))
+greater_only volume mark (Ok None) = Ok None
+greater_only volume mark (Err refusal) = Err refusal
 
 abbrev pub refuses_same_time : Library
 refuses_same_time = reading (λ volume mark. greater_only volume mark (ours.read volume mark))
 
 -- a writer that does not look at the last time, and so accepts a lower one
 abbrev pub timeless : Bookmark → Bookmark
-timeless mark = record { offset = mark.offset; due = mark.due; last = Never; number = mark.number }
+timeless mark = record { offset = mark.offset; due = mark.due; last = None; number = mark.number }
 
 abbrev pub accepts_lower_time : Library
 accepts_lower_time =
@@ -236,28 +223,27 @@ accepts_lower_time =
 
 -- a reader that numbers the blocks from 1
 abbrev pub one_higher : ReadAnswer → ReadAnswer
-one_higher (read.Found found) = read.Found (record { block = found.block; number = suc found.number; next = found.next })
-one_higher read.End = read.End
-one_higher (read.Refused refusal) = read.Refused refusal
+one_higher (Ok (Some found)) = Ok (Some (record { block = found.block; number = suc found.number; next = found.next }))
+one_higher (Ok None) = Ok None
+one_higher (Err refusal) = Err refusal
 
 abbrev pub numbers_from_one : Library
 numbers_from_one = reading (λ volume mark. one_higher (ours.read volume mark))
 
 -- a reader that does not count a table
 abbrev pub same_after_table : Bookmark → ReadAnswer → ReadAnswer
-same_after_table mark (read.Found found) =
-    read.Found
-    (record { block = found.block; number = found.number; next = cond mark.due (numbered mark.number found.next) found.next })
-same_after_table mark read.End = read.End
-same_after_table mark (read.Refused refusal) = read.Refused refusal
+same_after_table mark (Ok (Some found)) =
+    Ok (Some (record { block = found.block; number = found.number; next = cond mark.due (numbered mark.number found.next) found.next }))
+same_after_table mark (Ok None) = Ok None
+same_after_table mark (Err refusal) = Err refusal
 
 abbrev pub counts_no_table : Library
 counts_no_table = reading (λ volume mark. same_after_table mark (ours.read volume mark))
 
 -- appends that do not count
 abbrev pub not_counted : Bookmark → WriteAnswer → WriteAnswer
-not_counted mark (write.Next next) = write.Next (numbered mark.number next)
-not_counted mark (write.Refused refusal) = write.Refused refusal
+not_counted mark (Ok next) = Ok (numbered mark.number next)
+not_counted mark (Err refusal) = Err refusal
 
 abbrev pub counts_no_append : Library
 counts_no_append =
@@ -266,8 +252,8 @@ counts_no_append =
 
 -- Wrong about texts, in the refusals of appends.
 abbrev pub told : (Refusal → Refusal) → WriteAnswer → WriteAnswer
-told other (write.Next next) = write.Next next
-told other (write.Refused refusal) = write.Refused (other refusal)
+told other (Ok next) = Ok next
+told other (Err refusal) = Err (other refusal)
 
 abbrev pub telling : (format.Block → Refusal → Refusal) → Library
 telling other =
@@ -294,9 +280,9 @@ in_second_part request refusal = record { number = refusal.number; text = 1; sta
 
 -- Wrong about torn appends: where bytes are missing, a checksum is told to be wrong.
 abbrev pub damaged_for_cut : Verdict → Verdict
-damaged_for_cut (verdict.Accepted accepted) = verdict.Accepted accepted
-damaged_for_cut (verdict.Refused rejected) =
-    verdict.Refused (record {
+damaged_for_cut (Ok accepted) = Ok accepted
+damaged_for_cut (Err rejected) =
+    Err (record {
       refusal = cond (eqb rejected.refusal.number 2) (refusal_of 5) rejected.refusal;
       offset = rejected.offset;
       blocks = rejected.blocks;
@@ -324,8 +310,8 @@ abbrev pub no_pair : (first second : List ℕ) → Bool
 no_pair first second = false
 
 -- Wrong about digests: nothing is fed, and the state stays as it was.
-abbrev pub feeds_nothing : Digest → (part : List ℕ) → Fed
-feeds_nothing state part = record { refusal = 0; state = state }
+abbrev pub feeds_nothing : Digest → (part : List ℕ) → Result Digest Fault
+feeds_nothing state part = Ok state
 
 -- Wrong about repairing: another test for what is torn, or another length that is left.
 abbrev pub repairing :
@@ -334,10 +320,10 @@ abbrev pub repairing :
     (volume : List ℕ)
     → Verdict
     → RepairAnswer
-repairing test left volume (verdict.Accepted accepted) = repair.Length (length volume)
-repairing test left volume (verdict.Refused rejected) =
-    cond (test (sequence_of volume) rejected.refusal.number rejected.offset) (repair.Length (left volume rejected.offset))
-    (repair.Refused rejected.refusal)
+repairing test left volume (Ok accepted) = Ok (length volume)
+repairing test left volume (Err rejected) =
+    cond (test (sequence_of volume) rejected.refusal.number rejected.offset) (Ok (left volume rejected.offset))
+    (Err rejected.refusal)
 
 -- one leaves all of a torn volume
 abbrev pub leaves_all : (volume : List ℕ) → RepairAnswer

@@ -1,6 +1,6 @@
 -- Listings of trees that are wrong, each in one way, and that the claim on trees is false of: four list by another rule.
 -- WrongAreShutOut of Wrong.antt says that the claim does not hold of them.
-use Rattle.std.specs.Prelude.{ℕ, suc, false, not, cond, List, [], ◌∷◌, ◌++◌, map, leb, eqb, length, take, get_or}
+use Rattle.std.specs.Prelude.{ℕ, suc, cond, List, [], ◌∷◌, ◌++◌, map, leb, eqb, length, take, get_or, Ok, Err}
 use Rattle.number.specs.Number.{put}
 use Rattle.checks.specs.Checks.{Check, check, first_fault}
 use Rattle.refusal.specs.Refusal.{refusal_with}
@@ -10,8 +10,7 @@ use Rattle.volume.specs.Reading.{read_order}
 use Rattle.volume.specs.declared.Bookmark.{Bookmark}
 use Rattle.folders.specs.Lines.{Line, levels, held, line_numbers}
 use Rattle.tree.specs.Listing.{table_due, table_links, lines_at, lines_order}
-use Rattle.tree.specs.declared.TreeAnswer.{TreeAnswer}
-use Rattle.tree.specs.declared.TreeAnswer.TheVariants as tree
+use Rattle.tree.specs.Answers.{TreeAnswer}
 
 -- Wrong about trees: other checks of the lines, or other lines that are given for them.
 abbrev pub Order : Type 0
@@ -30,8 +29,8 @@ lines_by shape volume mark root = shape (table_links volume mark.offset) (lines_
 abbrev pub tree_by : Order → Shape → (volume : List ℕ) → Bookmark → (root room : ℕ) → TreeAnswer
 tree_by order shape volume mark root room =
     cond (eqb (fault_by order volume mark root room) 0)
-    (tree.Lines (length (lines_by shape volume mark root)))
-    (tree.Refused (refusal_with (fault_by order volume mark root room) (texts_at volume mark.offset)))
+    (Ok (length (lines_by shape volume mark root)))
+    (Err (refusal_with (fault_by order volume mark root room) (texts_at volume mark.offset)))
 
 abbrev pub list_by : Order → Shape → (volume : List ℕ) → Bookmark → (root : ℕ) (out : List ℕ) → List ℕ
 list_by order shape volume mark root out =

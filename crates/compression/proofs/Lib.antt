@@ -1,4 +1,3 @@
-pub mod Elements
 pub mod Extending
 pub mod InTurns
 pub mod Loading

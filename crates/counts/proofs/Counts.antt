@@ -5,9 +5,13 @@ use Prim.Native.Nat.{ℕ, zero, suc, ◌+◌, ◌-◌, ◌≤◌, ◌<◌}
 use mathlib.Core.Path.{◌≡◌, sym, ap, ◌∙◌}
 use mathlib.Core.List.{List, ◌∷◌, ◌++◌}
 use native.Mathlib.Omega.{arith}
-use lib.ListN.{length, get_or, set}
-use lib.Seq.{get_or-set_same, get_or-set_other}
+use mathlib.Core.Bool.{true}
+use lib.Dec.{eqb}
+use lib.Pointwise.{pointwise}
+use lib.ListN.{length, get_or, set, take}
+use lib.Seq.{get_or-set_same, get_or-set_other, get_or-take}
 use borrow.Author.Tests.{lt-leb}
+use Rattle.std.proofs.lemmas.Slice.Eq.{bytes_eq-Decides}
 use Rattle.order.proofs.Cases.{cases}
 use Rattle.folders.specs.Lines.{Line, levels, each, entry_lines}
 use Rattle.folders.specs.inner.Folders.{siblings, Indexed}
@@ -15,29 +19,14 @@ use Rattle.counts.specs.inner.Counting.{tally, tally_from, capped, joined, Count
 use Rattle.folders.proofs.Places.{siblings_step, past_last, line_first}
 use Rattle.counts.proofs.Tallies.{tally_more, tally_stops, tally_goes_on, joined_small, joined_capped}
 
--- The lowest level as it is filled.
-pub bottom_none : (counts : List ℕ) (links : ℕ) → links < length counts → Bottom (set counts links 0) links 0
-bottom_none counts links h = record { last = get_or-set_same counts links 0 0 h; deep = λ i l. absurd (omega arith) }
-
-pub bottom_more : (counts : List ℕ) (links i : ℕ) → links < length counts → i < links → Bottom counts links i
-    → Bottom (set counts i 1) links (i + 1)
-bottom_more counts links i h l b =
-    record {
-      last = get_or-set_other counts i links 1 0 (λ q. omega arith) ∙ b.last;
-      deep = λ j m.
-          cases j i
-          (λ q. get_or-set_other counts i j 1 0 (λ e. omega arith) ∙ b.deep j q)
-          (λ q. let e : j ≡ i = omega arith in rw e (get_or-set_same counts i 1 0 (omega arith)));
-    }
-
-pub same_more : (counts others : List ℕ) (i : ℕ) → Same counts others i → get_or counts i 0 ≡ get_or others i 0 → Same counts others (i + 1)
-same_more counts others i s e j l = cases j i (λ q. s j q) (λ q. let m : j ≡ i = omega arith in rw m e)
+-- two levels are the same where their counts up to the last one are
+pub same_of : (counts others : List ℕ) (links : ℕ) → pointwise eqb (take (links + 1) counts) (take (links + 1) others) ≡ true
+    → Same counts others (links + 1)
+same_of counts others links e i l =
+    let lists : take (links + 1) counts ≡ take (links + 1) others = (bytes_eq-Decides _ _).0 e in
+    sym (get_or-take (links + 1) counts i 0 l) ∙ ap (λ (list : List ℕ). get_or list i 0) lists ∙ get_or-take (links + 1) others i 0 l
 
 -- A level as it is filled.
-pub follows_none : (nexts firsts below counts : List ℕ) (links : ℕ) → links < length counts
-    → Follows nexts firsts below (set counts links 0) links links
-follows_none nexts firsts below counts links h = record { last = get_or-set_same counts links 0 0 h; step = λ i l b. absurd (omega arith) }
-
 module _ (nexts firsts below counts : List ℕ) (links from : ℕ) (f : Follows nexts firsts below counts links from) where
   pub follows_small : Small counts links from
   follows_small i l h =

@@ -7,141 +7,108 @@
 // Call: `count_lines`; the crate tree makes it before a line is stored.
 #![tactic(auto)]
 
-ghost use Rattle.std.specs.Prelude.{◌≡◌, true, [], ◌+◌, ◌<◌, ◌≤◌, length};
+ghost use Rattle.std.specs.Prelude.{◌≡◌, [], ◌+◌, ◌<◌, ◌≤◌, length};
 ghost use Rattle.folders.specs.Lines.{levels, each, entry_lines};
-ghost use Rattle.folders.specs.inner.Folders.{siblings, Indexed};
-ghost use Rattle.lines.specs.inner.Giving.{sound, give_all, given_in};
-ghost use Rattle.counts.specs.inner.Counting.{most, capped, joined, Counted, Within, Follows, Small, Same, Bottom, given_at};
+ghost use Rattle.folders.specs.inner.Folders.{siblings};
+ghost use Rattle.lines.specs.inner.Giving.{sound, give_all, given_in, given_of};
+ghost use Rattle.counts.specs.inner.Counting.{most, joined, Counted, Follows, Small, Bottom, given_at};
 
-use lines::{Given, LEVELS};
-use refusal::{ROOM_TOO_SMALL, TOO_DEEP};
+use folders::Index;
+use lines::{LEVELS, Stopped};
+use refusal::Fault;
 
 // Counts above this one are not told apart: it is above every room, and the sum of two of them fits.
-const MOST: u64 = 4611686018427387904;
-
-fn cap(count: u64) -> u64
-    ensures { result ≡ capped count }
-{
-    if count < MOST { count } else { MOST }
-}
+const MOST: u64 = 1 << 62;
 
 // The count of a link's line, of what it holds and of what stands behind it. Nothing is given behind a line that is too deep.
+// A count is twice the number of lines, and odd where a line is too deep: a pair would take sixteen bytes for eight, in
+// arrays that are gone through again for each level.
 fn join_counts(inside: u64, behind: u64) -> u64
     requires { (inside ≤ most) × (behind ≤ most) }
     ensures { result ≡ joined inside behind }
 {
     if inside % 2 == 1 {
-        return cap(inside + 2);
+        return (inside + 2).min(MOST);
     }
-    cap(inside + 2 + behind)
+    (inside + 2 + behind).min(MOST)
 }
 
-// The counts where no level is left.
-fn count_none(links: usize, counts: &mut [u64])
+// The counts where no level is left: the line of every link is too deep.
+fn count_none(counts: &mut [u64], links: usize)
     requires { links < length counts.old }
     ensures { Bottom counts.new links links }
 {
+    counts[..links].fill(1);
     counts[links] = 0;
-    let mut i = 0;
-    while i < links {
-        counts[i] = 1;
-        i += 1;
-    }
 }
 
 // The counts with one level more than those of `below`.
-fn count_level(nexts: &[u32], firsts: &[u32], links: usize, below: &[u64], counts: &mut [u64])
-    requires links_in_bounds { (links < length below.now) × (links < length counts.old) }
-    requires within { Within nexts.now firsts.now links × Small below.now links 0 }
-    ensures { Follows nexts.now firsts.now below.now counts.new links 0 }
+fn count_level(index: &Index, below: &[u64], counts: &mut [u64])
+    requires links_in_bounds { (length index.now.parents.now < length below.now) × (length index.now.parents.now < length counts.old) }
+    requires small { Small below.now (length index.now.parents.now) 0 }
+    ensures { Follows index.now.nexts.now index.now.firsts.now below.now counts.new (length index.now.parents.now) 0 }
 {
+    let links = index.parents.len();
     counts[links] = 0;
-    let mut i = links;
-    while 0 < i {
-        i -= 1;
-        counts[i] = join_counts(below[firsts[i] as usize], counts[nexts[i] as usize]);
+    for i in (0..links).rev() {
+        let inside = below[index.firsts[i] as usize];
+        let behind = counts[index.nexts[i] as usize];
+        counts[i] = join_counts(inside, behind);
     }
-}
-
-// Whether two levels have the same counts.
-fn is_same(counts: &[u64], others: &[u64], links: usize) -> bool
-    requires { (links < length counts.now) × (links < length others.now) }
-    ensures { result ≡ true → Same counts.now others.now (links + 1) }
-{
-    let mut i = 0;
-    while i <= links {
-        if counts[i] != others[i] {
-            return false;
-        }
-        i += 1;
-    }
-    true
 }
 
 // The counts with all levels left, from those with none. Each level follows from the one below it alone, so where two levels have the
 // same counts, all levels above them have: then it ends early.
-fn count_levels(
-    parents: &[u64],
-    children: &[u64],
-    nexts: &[u32],
-    firsts: &[u32],
-    counts: &mut [u64],
-    others: &mut [u64],
-)
-    requires parents_in_bounds { (length parents.now < length counts.old) × (length parents.now < length others.old) }
-    requires indexed { Indexed parents.now children.now nexts.now firsts.now × Counted parents.now children.now counts.old 0 }
-    ensures { Counted parents.now children.now counts.new levels }
+fn count_levels(index: &Index, counts: &mut [u64], others: &mut [u64])
+    requires parents_in_bounds { (length index.now.parents.now < length counts.old) × (length index.now.parents.now < length others.old) }
+    requires counted { Counted index.now.parents.now index.now.children.now counts.old 0 }
+    ensures { Counted index.now.parents.now index.now.children.now counts.new levels }
 {
-    let links = parents.len();
-    let mut left = 0;
-    while left < LEVELS {
-        count_level(nexts, firsts, links, counts, others);
-        if is_same(counts, others, links) {
+    let links = index.parents.len();
+    for _pair in 0..LEVELS / 2 {
+        count_level(index, counts, others);
+        if &counts[..=links] == &others[..=links] {
             return;
         }
-        count_level(nexts, firsts, links, others, counts);
-        left += 2;
+        count_level(index, others, counts);
     }
 }
 
 // What is answered of a count.
-fn answer_of(count: u64, room: usize) -> Given
-    ensures { result ≡ given_at room count }
+fn answer_of(count: u64, room: usize) -> Result<usize, Stopped>
+    ensures { given_of result ≡ given_at room count }
 {
     let lines = (count / 2) as usize;
     if room / 2 < lines {
-        return Given {
+        return Err(Stopped {
             lines: room / 2,
-            fault: ROOM_TOO_SMALL,
-        };
+            fault: Fault::RoomTooSmall,
+        });
     }
     if count % 2 == 1 {
-        return Given {
+        return Err(Stopped {
             lines,
-            fault: TOO_DEEP,
-        };
+            fault: Fault::TooDeep,
+        });
     }
-    Given { lines, fault: 0 }
+    Ok(lines)
 }
 
-// Internal: what giving the lines of a folder's links from the one at a place on answers. `counts` and `others` are lent to count in, with an entry
-// for each link and one more. The room is the length of a list of numbers, so that it is below `most`.
+// Internal: what giving the lines of a folder's links from the one at a place on answers. `counts` and `others` are lent to count in,
+// with an entry for each link and one more. The room is the length of a list of numbers, so that it is below `most`.
 pub fn count_lines(
-    parents: &[u64],
-    children: &[u64],
-    nexts: &[u32],
-    firsts: &[u32],
+    index: &Index,
     first: usize,
     room: usize,
     counts: &mut [u64],
     others: &mut [u64],
-) -> Given
-    requires parents_in_bounds { (length parents.now < length counts.old) × (length parents.now < length others.old) }
-    requires first_in_bounds { (first ≤ length parents.now) × ((room < most) × Indexed parents.now children.now nexts.now firsts.now) }
-    ensures { result ≡ given_in (give_all room (sound [] 0)
-        (each (entry_lines parents.now children.now levels) (siblings parents.now first))) }
+) -> Result<usize, Stopped>
+    requires parents_in_bounds { (length index.now.parents.now < length counts.old) × (length index.now.parents.now < length others.old) }
+    requires first_in_bounds { (first ≤ length index.now.parents.now) × (room < most) }
+    ensures { given_of result ≡ given_in (give_all room (sound [] 0)
+        (each (entry_lines index.now.parents.now index.now.children.now levels) (siblings index.now.parents.now first))) }
 {
-    count_none(parents.len(), counts);
-    count_levels(parents, children, nexts, firsts, counts, others);
+    count_none(counts, index.parents.len());
+    count_levels(index, counts, others);
     answer_of(counts[first], room)
 }

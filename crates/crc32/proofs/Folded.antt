@@ -6,8 +6,8 @@ use native.Mathlib.Omega.{arith}
 use native.Mathlib.Nat.{suc_inj, suc-ne-zero}
 use lib.ListN.{length, get_or, take, replicate, length-replicate}
 use lib.Seq.{take-suc, take-append-le, take-append-add, length-take-le}
-use lib.Bits.{bit_xor, xor_self, xor_zero_r}
-use Rattle.slicing.proofs.Xor.{xor_right_comm, xor_assoc}
+use lib.Bits.{bit_xor, xor_assoc, xor_self, xor_zero_r}
+use Rattle.slicing.proofs.Xor.{xor_right_comm}
 use Rattle.slicing.proofs.Zeros.{zeros_last, fold_xor}
 use Rattle.slicing.specs.inner.Slicing.{step}
 use Rattle.folding.specs.inner.Folding.{taken, start, added, delayed, spread, folded}

@@ -1,12 +1,11 @@
 -- The checksum fits four bytes. The register of a longer list continues from that of its beginning.
 -- The subtraction in the checksum's definition is a complement.
-use Prim.Native.Nat.{ℕ, ◌+◌, ◌-◌, ◌*◌, ◌/◌, ◌%◌, ◌^◌, ◌≤◌, ◌<◌}
-use mathlib.Core.Path.{◌≡◌, refl, ap, ap₂, ◌∙◌}
+use Prim.Native.Nat.{ℕ, ◌+◌, ◌-◌, ◌*◌, ◌/◌, ◌%◌, ◌^◌, ◌<◌}
+use mathlib.Core.Path.{◌≡◌, refl, sym, ap, ◌∙◌}
 use mathlib.Core.List.{List, [], ◌∷◌, ◌++◌, foldl, foldl-append}
 use native.Mathlib.Omega.{arith}
-use native.Mathlib.Nat.{not-suc-le-zero, suc-ne-zero}
-use lib.ListN.{length, get_or, take, drop}
-use lib.Seq.{take_all}
+use native.Mathlib.Nat.{suc-ne-zero}
+use lib.ListN.{length}
 use lib.Bits.{xor_lt}
 use Rattle.crc32.specs.Crc.{bits, reversed, polynomial, bit_step, byte_step, register, crc}
 
@@ -25,13 +24,11 @@ register_none (byte ∷ bytes) e = absurd (suc-ne-zero (length bytes) e)
 
 -- The register goes on from the first byte.
 pub register_first :
-    (bytes : List ℕ) (first last : ℕ) → 0 < length bytes → first ≡ byte_step 0xFFFFFFFF (get_or bytes 0 0)
-    → last ≡ foldl byte_step first (take (length bytes - 1) (drop 1 bytes)) → last ≡ register bytes
+    (bytes rest : List ℕ) (byte first last : ℕ) → bytes ≡ byte ∷ rest → first ≡ byte_step 0xFFFFFFFF byte
+    → last ≡ foldl byte_step first rest → last ≡ register bytes
 unfolding register
-register_first [] first last some e f = absurd (not-suc-le-zero some)
-register_first (byte ∷ bytes) first last some e f =
-    let rest : length bytes ≤ length (byte ∷ bytes) - 1 = omega arith in
-    f ∙ ap₂ (λ (r : ℕ) (s : List ℕ). foldl byte_step r s) e (take_all (length (byte ∷ bytes) - 1) bytes rest)
+register_first bytes rest byte first last cut e f =
+    f ∙ ap (λ (r : ℕ). foldl byte_step r rest) e ∙ ap (foldl byte_step 0xFFFFFFFF) (sym cut)
 
 -- The complement of the register is the checksum.
 pub complement : (bytes : List ℕ) (last : ℕ) → last ≡ register bytes → 0xFFFFFFFF - last ≡ crc bytes

@@ -2,15 +2,14 @@
 use Prim.Native.Nat.{ℕ, ◌/◌, ◌%◌, ◌<◌}
 use mathlib.Core.Path.{◌≡◌, refl, sym, ap, ap₂, ◌∙◌}
 use mathlib.Core.List.{List, [], ◌∷◌, foldl}
-use mathlib.Core.Logic.{⊎_elim}
 use native.Mathlib.Omega.{arith}
-use lib.ListN.{length, get_or, take}
+use lib.ListN.{get_or, take}
 use lib.Bits.{bit_xor, xor_lt}
 use Rattle.slicing.specs.inner.Slicing.{step, rows_from, Linear, Rows}
-use Rattle.slicing.proofs.Values.{length-values, values_at, Filling, filling_first}
-use Rattle.slicing.proofs.Rows.{rows_first, rows_filled}
+use Rattle.slicing.proofs.Values.{length-values, values_at, Filling, filling_end}
+use Rattle.slicing.proofs.Entries.{rows_first}
 use Rattle.crc32.specs.Crc.{byte_step}
-use Rattle.crc32.specs.inner.Tables.{crc_row, crc_rows, Lent}
+use Rattle.crc32.specs.inner.Tables.{crc_row, crc_rows}
 use Rattle.crc32.proofs.Linear.{byte_both, byte_split}
 
 row_at : (b : ℕ) → b < 256 → get_or crc_row b 0 ≡ byte_step 0 b
@@ -25,22 +24,14 @@ row_linear = record {
       row_at (bit_xor a b) (xor_lt 8 a b ha hb) ∙ byte_both 0 0 a b ∙ sym (ap₂ bit_xor (row_at a ha) (row_at b hb));
 }
 
-pub row_filled : (tables : List ℕ) → Filling (byte_step 0) 4096 tables 256 → take 256 tables ≡ crc_row
+pub row_filled : (row : List ℕ) → Filling (byte_step 0) 256 row 256 → row ≡ crc_row
 unfolding crc_row
-row_filled tables full = filling_first (byte_step 0) 4096 tables 256 full (omega arith)
+row_filled row full = filling_end (byte_step 0) 256 row full
 
--- What is lent and not empty holds the rows.
-pub not_empty : (tables : List ℕ) → Lent tables → 0 < length tables → tables ≡ crc_rows
-not_empty tables lent some = ⊎_elim (λ none. absurd (omega arith)) (λ full. full) lent
-
--- Tables that hold the rows can be lent to slicing.
-pub rows_lent : (tables : List ℕ) → tables ≡ crc_rows → Rows tables
+-- The rows that follow from the first one.
+pub rows_made : (entries row : List ℕ) → row ≡ crc_row → take 256 entries ≡ row → Rows entries → entries ≡ crc_rows
 unfolding crc_rows
-rows_lent tables e = rows_filled row_linear e
-
-pub rows_made : (tables row : List ℕ) → row ≡ crc_row → tables ≡ rows_from row → tables ≡ crc_rows
-unfolding crc_rows
-rows_made tables row e filled = filled ∙ ap rows_from e
+rows_made entries row e first rows = rows.filled ∙ ap rows_from (first ∙ e)
 
 step_row : (r b : ℕ) → step crc_row r b ≡ byte_step r b
 unfolding step

@@ -1,12 +1,14 @@
 -- A state comes back from its bytes, and lent bytes from the state that they are taken for. Assumes nothing.
-use Prim.Native.Nat.{ℕ, ◌+◌, ◌≤◌}
+use Prim.Native.Nat.{ℕ, zero, suc, ◌+◌, ◌*◌, ◌≤◌, ◌<◌}
 use mathlib.Core.Path.{◌≡◌, refl, sym, subst⁻¹, ap, ap₂, ◌∙◌}
-use mathlib.Core.List.{List, [], ◌∷◌, ◌++◌, append_assoc}
+use mathlib.Core.List.{List, [], ◌∷◌, ◌++◌, append_assoc, append-nil}
+use native.Mathlib.Numerals.{add-one, unary_clauses}
 use native.Mathlib.Omega.{arith}
 use lib.Dec.{lit<}
-use lib.ListN.{length, take, drop, get_or, length-append}
+use lib.ListN.{length, take, drop, get_or, replicate, length-append}
 use lib.Seq.{drop_at, take-add}
 use Rattle.number.specs.Number.{Bytes, le_bytes, part, put}
+use Rattle.number.proofs.Digits.{length-le_bytes}
 use Rattle.number.proofs.Parts.{length_part, part_at}
 use Rattle.number.proofs.Put.{put_next, put_fits}
 use Rattle.format.specs.Layout.{Fit, laid}
@@ -16,28 +18,47 @@ use Rattle.sha256.specs.Feeding.{new}
 use Rattle.sha256.specs.declared.Digest.{Digest}
 use Rattle.digests.specs.States.{state_widths, state_numbers, SizedState, state_bytes, words_of, state_of}
 
--- four words, and all of a state, written one after the other
-pub four_written : (old : List ℕ) (at a b c d : ℕ) {one two three four : List ℕ} → at + 16 ≤ length old
-    → one ≡ put old at (le_bytes 4 a) → two ≡ put one (at + 4) (le_bytes 4 b) → three ≡ put two (at + 8) (le_bytes 4 c)
-    → four ≡ put three (at + 12) (le_bytes 4 d) → four ≡ put old at (laid (4 ∷ 4 ∷ 4 ∷ 4 ∷ []) (a ∷ b ∷ c ∷ d ∷ []))
-unfolding laid le_bytes
-four_written old at a b c d h e f g k =
-    let two = put_next old (le_bytes 4 a) (le_bytes 4 b) at 4 refl (omega arith) e f in
-    let three = put_next old (le_bytes 4 a ++ le_bytes 4 b) (le_bytes 4 c) at 8 refl (omega arith) two g in
-    put_next old (le_bytes 4 a ++ le_bytes 4 b ++ le_bytes 4 c) (le_bytes 4 d) at 12 refl (omega arith) three k
+-- words written one after the other
 
-pub state_written : (old : List ℕ) (state : Digest) {one two three four : List ℕ} → length state.held ≡ 64 → 104 ≤ length old
-    → one ≡ put old 0 (laid (4 ∷ 4 ∷ 4 ∷ 4 ∷ []) (state.words.a ∷ state.words.b ∷ state.words.c ∷ state.words.d ∷ []))
-    → two ≡ put one 16 (laid (4 ∷ 4 ∷ 4 ∷ 4 ∷ []) (state.words.e ∷ state.words.f ∷ state.words.g ∷ state.words.h ∷ []))
-    → three ≡ put two 32 (le_bytes 8 state.fed) → four ≡ put three 40 state.held → four ≡ put old 0 (state_bytes state)
+laid_more : (i : ℕ) (words : List ℕ) → i < length words → laid (replicate (suc i) 4) words ≡ laid (replicate i 4) words ++ le_bytes 4 (get_or words i 0)
+unfolding laid
+laid_more i [] h = absurd (omega arith)
+laid_more zero (word ∷ words) h = append-nil (le_bytes 4 word)
+laid_more (suc i) (word ∷ words) h =
+    ap (λ rest. le_bytes 4 word ++ rest) (laid_more i words (omega arith))
+    ∙ sym (append_assoc (le_bytes 4 word) (laid (replicate i 4) words) (le_bytes 4 (get_or words i 0)))
+
+length-laid_words : (i : ℕ) (words : List ℕ) → i ≤ length words → length (laid (replicate i 4) words) ≡ 4 * i
+unfolding laid
+length-laid_words zero words h = refl
+length-laid_words (suc i) [] h = absurd (omega arith)
+length-laid_words (suc i) (word ∷ words) h =
+    length-append (le_bytes 4 word) (laid (replicate i 4) words)
+    ∙ simp unary_clauses (omega (arith, length-le_bytes 4 word, length-laid_words i words (omega arith)))
+
+pub word_written : (old words : List ℕ) (i : ℕ) {room next : List ℕ} → i < length words → 4 * i + 4 ≤ length old
+    → room ≡ put old 0 (laid (replicate i 4) words) → next ≡ put room (4 * i) (le_bytes 4 (get_or words i 0))
+    → next ≡ put old 0 (laid (replicate (i + 1) 4) words)
+word_written old words i {room} {next} h l e f =
+    let long = length-laid_words i words (omega arith) in
+    let at : 4 * i ≡ 0 + 4 * i = omega arith in
+    put_next old (laid (replicate i 4) words) (le_bytes 4 (get_or words i 0)) 0 (4 * i) long
+    (omega (arith, length-le_bytes 4 (get_or words i 0))) e (f ∙ ap (λ (n : ℕ). put room n (le_bytes 4 (get_or words i 0))) at)
+    ∙ ap (put old 0) (sym (laid_more i words h) ∙ ap (λ (n : ℕ). laid (replicate n 4) words) (sym (add-one i)))
+
+-- and all of a state
+pub state_written : (old : List ℕ) (state : Digest) {one two three : List ℕ} → length state.held ≡ 64 → 104 ≤ length old
+    → one
+    ≡ put old 0
+    (laid (replicate 8 4)
+    (state.words.a ∷ state.words.b ∷ state.words.c ∷ state.words.d ∷ state.words.e ∷ state.words.f ∷ state.words.g ∷ state.words.h ∷ []))
+    → two ≡ put one 32 (le_bytes 8 state.fed) → three ≡ put two 40 state.held → three ≡ put old 0 (state_bytes state)
 unfolding laid le_bytes state_bytes
-state_written old state l h e f g k =
+state_written old state l h e f g =
     let words = state.words in
-    let first : List ℕ = laid (4 ∷ 4 ∷ 4 ∷ 4 ∷ []) (words.a ∷ words.b ∷ words.c ∷ words.d ∷ []) in
-    let second : List ℕ = laid (4 ∷ 4 ∷ 4 ∷ 4 ∷ []) (words.e ∷ words.f ∷ words.g ∷ words.h ∷ []) in
-    let two = put_next old first second 0 16 refl (omega arith) e f in
-    let three = put_next old (first ++ second) (le_bytes 8 state.fed) 0 32 refl (omega arith) two g in
-    put_next old ((first ++ second) ++ le_bytes 8 state.fed) state.held 0 40 refl (omega arith) three k
+    let first : List ℕ = laid (replicate 8 4) (words.a ∷ words.b ∷ words.c ∷ words.d ∷ words.e ∷ words.f ∷ words.g ∷ words.h ∷ []) in
+    let two = put_next old first (le_bytes 8 state.fed) 0 32 refl (omega arith) e f in
+    put_next old (first ++ le_bytes 8 state.fed) state.held 0 40 refl (omega arith) two g
 
 -- The numbers of a state, and the state that numbers and held bytes make.
 

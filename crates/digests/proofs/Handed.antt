@@ -1,21 +1,19 @@
 -- What a call answers and what the lent bytes then hold, check by check, and that a digest is handed out as sha256 answers it.
 -- Assumes nothing.
-use Prim.Native.Nat.{ℕ, ◌+◌, ◌≤◌}
-use mathlib.Core.Path.{◌≡◌, refl}
+use Prim.Native.Nat.{ℕ, ◌≤◌}
+use mathlib.Core.Path.{◌≡◌, refl, ap, ◌∙◌}
 use mathlib.Core.Bool.{Bool, true, false, cond}
-use mathlib.Core.List.{List, [], ◌∷◌, foldl}
-use native.Mathlib.Omega.{arith}
+use mathlib.Core.List.{List, [], ◌∷◌}
 use lib.Dec.{eqb, ltb}
-use lib.ListN.{length, replicate}
+use lib.ListN.{length}
 use borrow.Author.Tests.{le-ltb}
 use Rattle.number.specs.Number.{put}
 use Rattle.checks.specs.Checks.{Check, check, first_fault}
-use Rattle.fips180.specs.Hash.{sha256}
-use Rattle.sha256.specs.Feeding.{feed_byte, too_many, feed_answer, digest_of, finish_answer, whole_answer}
-use Rattle.sha256.specs.declared.Digest.{Digest}
-use Rattle.sha256.specs.declared.Fed.{Fed}
-use Rattle.sha256.specs.declared.Finished.{Finished}
-use Rattle.digests.specs.States.{state_of, whole_order, finish_order, laid_over}
+use Rattle.refusal.specs.declared.Fault.{Fault}
+use Rattle.refusal.specs.declared.Fault.TheVariants.{TooLarge}
+use Rattle.refusal.specs.Faults.{number_of, fault_number}
+use Rattle.std.proofs.Common.{Result, Ok, Err}
+use Rattle.digests.specs.States.{laid_over}
 use Rattle.digests.specs.inner.Handed.{hand_order}
 
 -- a call with these checks and these new bytes gives this answer, and makes the lent bytes these
@@ -33,49 +31,33 @@ handed (clear e) = (refl, e)
 handed (hit e n) = rw (e, n) (refl, refl)
 handed (miss e h) = rw e (handed h)
 
--- An answer of sha256 is handed out as it is: refused, or with a digest.
+-- An answer of sha256, refused or not.
 
-module _ {finished : Finished} {answer : ℕ} {after : List ℕ} (out : List ℕ) where
-  digest_handed : (too_long : Bool) (zeros digest : List ℕ)
-      → finished ≡ cond too_long (record { refusal = 1; digest = zeros }) (record { refusal = 0; digest = digest })
-      → (answer ≡ first_fault (hand_order finished out)) × (after ≡ laid_over (hand_order finished out) finished.digest out)
-      → (answer ≡ first_fault (check too_long 1 ∷ check (ltb (length out) 32) 17 ∷ []))
-      × (after ≡ laid_over (check too_long 1 ∷ check (ltb (length out) 32) 17 ∷ []) digest out)
-  unfolding first_fault laid_over
-  digest_handed true zeros digest e h = rw e at h
-  digest_handed false zeros digest e h = rw e at h
+pub refused : {A : Type 0} (too_long : Bool) (value : A) {fault : Fault} → Err fault ≡ cond too_long (Err TooLarge) (Ok value)
+    → (too_long ≡ true) × (fault ≡ TooLarge)
+refused true value e = (refl, cc)
+refused false value e = absurd (cc)
 
-  pub whole_handed : (bytes : List ℕ) → finished ≡ whole_answer bytes
-      → (answer ≡ first_fault (hand_order finished out)) × (after ≡ laid_over (hand_order finished out) finished.digest out)
-      → (answer ≡ first_fault (whole_order bytes out)) × (after ≡ laid_over (whole_order bytes out) (sha256 bytes) out)
-  unfolding whole_answer
-  whole_handed bytes e h = digest_handed (too_many (length bytes)) (replicate 32 0) (sha256 bytes) e h
+pub accepted : {A : Type 0} (too_long : Bool) (value : A) {found : A} → Ok found ≡ cond too_long (Err TooLarge) (Ok value)
+    → (too_long ≡ false) × (found ≡ value)
+accepted true value e = absurd (cc)
+accepted false value e = (refl, cc)
 
-  pub finish_handed : (state : List ℕ) → 104 ≤ length state → finished ≡ finish_answer (state_of state)
-      → (answer ≡ first_fault (hand_order finished out)) × (after ≡ laid_over (hand_order finished out) finished.digest out)
-      → (answer ≡ first_fault (finish_order state out)) × (after ≡ laid_over (finish_order state out) (digest_of (state_of state)) out)
-  unfolding first_fault laid_over finish_answer
-  finish_handed state room e h =
-      rw (le-ltb (length state) 104 room)
-      (digest_handed (too_many (state_of state).fed) (replicate 32 0) (digest_of (state_of state)) e h)
+-- the number of a fault that is handed on
+pub handed_on : {A : Type 0} {result : Result A Fault} {other fault known : Fault} → result ≡ Err other → other ≡ fault → fault ≡ known
+    → fault_number result ≡ number_of known
+handed_on p q e = ap fault_number p ∙ ap number_of (q ∙ e)
 
--- a part is refused, or it is fed
-module _ {fed : Fed} (state : Digest) (part : List ℕ) (e : fed ≡ feed_answer state part) where
-  Answered : Bool → Type 0
-  Answered too_long = fed ≡ cond too_long (record { refusal = 1; state = state }) (record { refusal = 0; state = foldl feed_byte state part })
+-- a digest is handed out after the checks before it
+pub digest_handed : (out : List ℕ) {digest new after : List ℕ} {answer : ℕ} {too_long : Bool} → too_long ≡ false → digest ≡ new
+    → answer ≡ first_fault (hand_order out) → after ≡ laid_over (hand_order out) digest out
+    → (answer ≡ first_fault (check too_long 1 ∷ hand_order out)) × (after ≡ laid_over (check too_long 1 ∷ hand_order out) new out)
+unfolding first_fault laid_over
+digest_handed out f e a o = rw (f, ← e) (a, o)
 
-  pub feed_refused : (fed.refusal ≡ 0 → ⊥) → (fed.refusal ≡ 1) × (too_many (state.fed + length part) ≡ true)
-  unfolding Answered feed_answer
-  feed_refused n = go (too_many (state.fed + length part)) e
-    where
-      go : (too_long : Bool) → Answered too_long → (fed.refusal ≡ 1) × (too_long ≡ true)
-      go true e = (rw e, refl)
-      go false e = absurd (n (rw e))
-
-  pub feed_done : fed.refusal ≡ 0 → (too_many (state.fed + length part) ≡ false) × (fed.state ≡ foldl feed_byte state part)
-  unfolding Answered feed_answer
-  feed_done n = go (too_many (state.fed + length part)) e
-    where
-      go : (too_long : Bool) → Answered too_long → (too_long ≡ false) × (fed.state ≡ foldl feed_byte state part)
-      go true e = let z : ◌≡◌ {A = ℕ} 1 0 = cc in absurd (omega arith)
-      go false e = (refl, rw e)
+-- and a state that is long enough is no fault
+pub past_room : (state new old : List ℕ) (checks : List Check) {answer : ℕ} {after : List ℕ} → 104 ≤ length state
+    → (answer ≡ first_fault checks) × (after ≡ laid_over checks new old)
+    → (answer ≡ first_fault (check (ltb (length state) 104) 17 ∷ checks)) × (after ≡ laid_over (check (ltb (length state) 104) 17 ∷ checks) new old)
+unfolding first_fault laid_over
+past_room state new old checks h e = rw (le-ltb (length state) 104 h) e

@@ -1,15 +1,17 @@
 // Digests into lent bytes, for callers who keep no state of their own kind.
 //
 // Public calls: `whole`, the digest of bytes in one call; `start`, `feed` and `finish`, between which the state stands in bytes that the
-// caller lends again to the next call. It is taken from them as it stands, also where the caller made it up. Each call answers the
-// number of its refusal; beside one it changes no byte.
+// caller lends again to the next call. It is taken from them as it stands, also where the caller made it up. A call that is refused
+// changes no byte.
 // Caller: exchange.
 #![tactic(auto)]
 
-ghost use Rattle.std.specs.Prelude.{◌≡◌, ◌+◌, ◌≤◌, length};
-ghost use mathlib.Core.List.{[], ◌∷◌, foldl};
+ghost use Rattle.std.specs.Prelude.{◌≡◌, ◌≤◌, ◌<◌, length, replicate, OnOk, MatchResult};
+ghost use mathlib.Core.List.{foldl};
 ghost use Rattle.number.specs.Number.{put};
 ghost use Rattle.checks.specs.Checks.{first_fault};
+ghost use Rattle.refusal.specs.Faults.{fault_number};
+ghost use Rattle.refusal.specs.declared.Fault.TheVariants.{RoomTooSmall};
 ghost use Rattle.format.specs.Layout.{laid};
 ghost use Rattle.fips180.specs.Hash.{sha256};
 ghost use Rattle.sha256.specs.Feeding.{new, feed_byte, digest_of};
@@ -17,8 +19,8 @@ ghost use Rattle.digests.specs.States.{SizedState, state_bytes, state_of, words_
 ghost use Rattle.digests.specs.inner.Handed.{hand_order};
 
 use fips180::Words;
-use refusal::ROOM_TOO_SMALL;
-use sha256::{Digest, Finished};
+use refusal::Fault;
+use sha256::Digest;
 
 // How many bytes a state has: eight words, the number of bytes fed, and the held bytes.
 const STATE: usize = 104;
@@ -27,74 +29,71 @@ const STATE: usize = 104;
 const DIGEST: usize = 32;
 
 // Writes the digest of bytes in one call.
-pub fn whole(bytes: &[u8], out: &mut [u8]) -> u64
-    ensures answer { result ≡ first_fault (whole_order bytes.now out.old) }
+pub fn whole(bytes: &[u8], out: &mut [u8]) -> Result<(), Fault>
+    ensures answer { fault_number result ≡ first_fault (whole_order bytes.now out.old) }
     ensures out { out.new ≡ laid_over (whole_order bytes.now out.old)
         (sha256 bytes.now) out.old }
 {
-    hand_out(sha256::sha256(bytes), out)
+    let digest = sha256::sha256(bytes)?;
+    hand_out(&digest, out)
 }
 
 // Writes a new state.
-pub fn start(state: &mut [u8]) -> u64
-    ensures answer { result ≡ first_fault (start_order state.old) }
+pub fn start(state: &mut [u8]) -> Result<(), Fault>
+    ensures answer { fault_number result ≡ first_fault (start_order state.old) }
     ensures state { state.new ≡ laid_over (start_order state.old) (state_bytes new) state.old }
 {
-    if state.len() < STATE {
-        return ROOM_TOO_SMALL;
-    }
-    write_state(state, sha256::start());
-    0
+    check_room(state, STATE)?;
+    write_state(state, Digest::start());
+    Ok(())
 }
 
 // Feeds a part. A state that is written is sized, so the next call reads it back as it is (proofs/Crossing.antt).
-pub fn feed(state: &mut [u8], part: &[u8]) -> u64
-    ensures answer { result ≡ first_fault (feed_order state.old part.now) }
+pub fn feed(state: &mut [u8], part: &[u8]) -> Result<(), Fault>
+    ensures answer { fault_number result ≡ first_fault (feed_order state.old part.now) }
     ensures state { state.new ≡ laid_over (feed_order state.old part.now)
         (state_bytes (foldl feed_byte (state_of state.old) part.now)) state.old }
-    ensures sized { result ≡ 0 → SizedState (foldl feed_byte (state_of state.old) part.now) }
+    ensures sized { OnOk result (SizedState (foldl feed_byte (state_of state.old) part.now)) }
 {
-    if state.len() < STATE {
-        return ROOM_TOO_SMALL;
-    }
-    let fed = sha256::feed(read_state(state), part);
-    if fed.refusal != 0 {
-        return fed.refusal;
-    }
-    let next = fed.state;
+    check_room(state, STATE)?;
+    let next = read_state(state).feed(part)?;
     write_state(state, next);
-    0
+    Ok(())
 }
 
 // Writes the digest of what was fed. The state stays as it is.
-pub fn finish(state: &[u8], out: &mut [u8]) -> u64
-    ensures answer { result ≡ first_fault (finish_order state.now out.old) }
+pub fn finish(state: &[u8], out: &mut [u8]) -> Result<(), Fault>
+    ensures answer { fault_number result ≡ first_fault (finish_order state.now out.old) }
     ensures out { out.new ≡ laid_over (finish_order state.now out.old)
         (digest_of (state_of state.now)) out.old }
 {
-    if state.len() < STATE {
-        return ROOM_TOO_SMALL;
-    }
-    hand_out(sha256::finish(read_state(state)), out)
+    check_room(state, STATE)?;
+    let digest = read_state(state).finish()?;
+    hand_out(&digest, out)
 }
 
-// Writes a digest, where there is one and room for it.
-fn hand_out(finished: Finished, out: &mut [u8]) -> u64
-    ensures answer { result ≡ first_fault (hand_order finished out.old) }
-    ensures out { out.new ≡ laid_over (hand_order finished out.old) finished.digest out.old }
+// Whether lent bytes are as many as are needed. They stay a slice: the contracts are about all that is lent, and an array of the first of
+// them would be a part, of which each call would have to say so.
+fn check_room(room: &[u8], needed: usize) -> Result<(), Fault>
+    ensures { MatchResult result (λ _. needed ≤ length room.now) (λ fault. (fault ≡ RoomTooSmall) × (length room.now < needed)) }
 {
-    if finished.refusal != 0 {
-        return finished.refusal;
+    if room.len() < needed {
+        return Err(Fault::RoomTooSmall);
     }
-    if out.len() < DIGEST {
-        return ROOM_TOO_SMALL;
-    }
-    let digest = finished.digest;
-    number::write_bytes(out, 0, &digest);
-    0
+    Ok(())
 }
 
-// The words at the beginning of the state's bytes.
+// Writes a digest, where there is room for it.
+fn hand_out(digest: &[u8; 32], out: &mut [u8]) -> Result<(), Fault>
+    ensures answer { fault_number result ≡ first_fault (hand_order out.old) }
+    ensures out { out.new ≡ laid_over (hand_order out.old) digest.now out.old }
+{
+    check_room(out, DIGEST)?;
+    number::write_bytes(out, 0, digest);
+    Ok(())
+}
+
+// The words at the beginning of the state's bytes. Field by field: an array of them would only be taken apart again.
 fn read_words(state: &[u8]) -> Words
     ensures { result ≡ words_of state.now }
 {
@@ -116,7 +115,7 @@ fn read_state(state: &[u8]) -> Digest
     ensures { result ≡ state_of state.now }
 {
     let mut held = [0u8; 64];
-    number::write_bytes(&mut held, 0, &state[40..104]);
+    held.copy_from_slice(&state[40..STATE]);
     Digest {
         words: read_words(state),
         fed: number::read_u64(state, 32),
@@ -124,15 +123,14 @@ fn read_state(state: &[u8]) -> Digest
     }
 }
 
-// Writes four of the eight words. Functions with few writes are checked faster.
-fn write_four(state: &mut [u8], at: usize, a: u32, b: u32, c: u32, d: u32)
-    requires { at + 16 ≤ length state.old }
-    ensures { state.new ≡ put state.old at (laid (4 ∷ 4 ∷ 4 ∷ 4 ∷ []) (a ∷ b ∷ c ∷ d ∷ [])) }
+// Writes eight words one after the other.
+fn write_words(state: &mut [u8], words: &[u32; 8])
+    requires { 32 ≤ length state.old }
+    ensures { state.new ≡ put state.old 0 (laid (replicate 8 4) words.now) }
 {
-    number::write_u32(state, at, a);
-    number::write_u32(state, at + 4, b);
-    number::write_u32(state, at + 8, c);
-    number::write_u32(state, at + 12, d);
+    for (i, word) in words.iter().enumerate() {
+        number::write_u32(state, 4 * i, *word);
+    }
 }
 
 // Writes a state over the first of the lent bytes.
@@ -142,9 +140,12 @@ fn write_state(state: &mut [u8], digest: Digest)
     ensures long { length digest.held ≡ 64 }
 {
     let words = digest.words;
-    let held = digest.held;
-    write_four(state, 0, words.a, words.b, words.c, words.d);
-    write_four(state, 16, words.e, words.f, words.g, words.h);
+    write_words(
+        state,
+        &[
+            words.a, words.b, words.c, words.d, words.e, words.f, words.g, words.h,
+        ],
+    );
     number::write_u64(state, 32, digest.fed);
-    number::write_bytes(state, 40, &held);
+    number::write_bytes(state, 40, &digest.held);
 }

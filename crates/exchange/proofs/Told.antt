@@ -1,7 +1,8 @@
 -- The volume that `source_of` tells is the one whose very part a fetch hands back. Assumes nothing.
 use Prim.Native.Nat.{ℕ}
-use mathlib.Core.Path.{◌≡◌}
-use mathlib.Core.Bool.{cond}
+use mathlib.Core.Path.{◌≡◌, refl}
+use mathlib.Core.Bool.{Bool, true, false, cond, not}
+use mir.Val.{bool_byte}
 use mathlib.Core.List.{List}
 use mathlib.Core.Logic.{⊎_elim}
 use mathlib.Mathlib.Data.Bool.Basic.{dichotomy}
@@ -9,7 +10,7 @@ use lib.Dec.{eqb}
 use borrow.Author.Tests.{eqb-true, eqb-false, eq-eqb}
 use Rattle.number.specs.Address.{Address}
 use Rattle.volume.specs.Heading.{sequence_of}
-use Rattle.lookup.specs.Fetch.{fetch_fault}
+use Rattle.lookup.specs.Fetch.{fetch_fault, whichever}
 use Rattle.lookup.proofs.Fetch.{Held, held_in_first, held_in_second, second_has}
 use Rattle.exchange.specs.Sources.{source_of}
 
@@ -29,3 +30,14 @@ the_volume_told_has_the_part first second first_at second_at number offset len s
     (held_in_second first second first_at second_at number offset len sound n))
     (λ yes. rw yes (held_in_first first second first_at second_at number offset len sound (eqb-true (sequence_of first) number yes)))
     (dichotomy (eqb (sequence_of first) number)))
+
+-- where nothing is refused, the number in the first header tells which volume has it
+pub told_by_the_first : (first second : List ℕ) (number offset len : ℕ) → fetch_fault first second number offset len ≡ 0
+    → bool_byte (not (eqb (sequence_of first) number)) ≡ whichever first second number 0 1 0
+told_by_the_first first second number offset len sound = go (eqb (sequence_of first) number) refl
+  where
+    go : (here : Bool) → eqb (sequence_of first) number ≡ here
+        → bool_byte (not here) ≡ cond here 0 (cond (eqb (sequence_of second) number) 1 0)
+    go true e = refl
+    go false e =
+        rw (eq-eqb (sequence_of second) number (second_has first second number offset len sound (eqb-false (sequence_of first) number e)))

@@ -1,16 +1,14 @@
 -- A block that was read, as numbers: its fields by their names in the layout, and the places of its variable parts.
-use Rattle.std.specs.Prelude.{ℕ, false, cond, List, [], ◌∷◌, get_or}
+use Rattle.std.specs.Prelude.{ℕ, false, cond, List, [], ◌∷◌, get_or, None}
 use Prim.Native.String.{String}
 use lib.Text.{eqt}
 use Rattle.format.specs.Layout.{Field, field}
 use Rattle.format.specs.Blocks as format
 use Rattle.format.specs.Blocks.{id_of, layout, kind_of, fields}
-use Rattle.refusal.specs.Refusal.{refusal_of}
-use Rattle.refusal.specs.declared.Refusal.{Refusal}
+use Rattle.refusal.specs.Refusal.{refusal_of, Refusal}
 use Rattle.block.specs.Shown.{shown, parts}
 use Rattle.block.specs.declared.Part.{Part}
 use Rattle.block.specs.declared.Block.{Block}
-use Rattle.volume.specs.declared.LastTime.TheVariants.{Never}
 use Rattle.volume.specs.declared.Bookmark.{Bookmark}
 use Rattle.exchange.specs.Marks.{flag_number, timed_number, time_number}
 use Rattle.exchange.specs.declared.BlockNumbers.{BlockNumbers}
@@ -73,4 +71,4 @@ found_numbers block number next =
 
 -- no block: a refusal, or 1 for "end", and 0 for the rest
 abbrev pub no_block : Refusal → (end : ℕ) → BlockNumbers
-no_block refusal end = numbers_with refusal end 0 0 (record { offset = 0; due = false; last = Never; number = 0 }) (λ name. 0) []
+no_block refusal end = numbers_with refusal end 0 0 (record { offset = 0; due = false; last = None; number = 0 }) (λ name. 0) []

@@ -1,11 +1,11 @@
 -- What the check of a whole volume answers, as numbers.
-use Rattle.volume.specs.declared.Verdict.{Verdict}
-use Rattle.volume.specs.declared.Verdict.TheVariants.{Accepted, Refused}
+use Rattle.std.specs.Prelude.{Ok, Err}
+use Rattle.volume.specs.Answers.{Verdict}
 use Rattle.exchange.specs.Marks.{timed_number, time_number}
 use Rattle.exchange.specs.declared.CheckNumbers.{CheckNumbers}
 
 unfoldable pub check_numbers : Verdict → CheckNumbers
-check_numbers (Accepted a) = record {
+check_numbers (Ok a) = record {
   refusal = 0;
   text = 0;
   start = 0;
@@ -15,7 +15,7 @@ check_numbers (Accepted a) = record {
   timed = timed_number a.end.last;
   time = time_number a.end.last;
 }
-check_numbers (Refused r) = record {
+check_numbers (Err r) = record {
   refusal = r.refusal.number;
   text = r.refusal.text;
   start = r.refusal.start;

@@ -6,7 +6,7 @@
 -- not 0: so no refusal has the number 0, and no other answer is taken for one. The check of a pair is the one exception: the number
 -- of blocks before a volume's own fault does not go out, and such a fault is told by the field `which`. The state of a digest goes
 -- out as bytes and comes back from them. For fetched bytes see proofs/Told.antt. Proved in proofs/Crossing.antt.
-use Rattle.std.specs.Prelude.{ℕ, ◌+◌, ◌≤◌, ◌≡◌, ◌↔◌, List, [], ◌∷◌, ◌++◌, length, take}
+use Rattle.std.specs.Prelude.{ℕ, ◌+◌, ◌≤◌, ◌≡◌, ◌↔◌, List, [], ◌∷◌, ◌++◌, length, take, Some, Ok, Err}
 use Prim.Native.String.{String}
 use Rattle.number.specs.Number.{Bytes, part, put}
 use Rattle.sha256.specs.Feeding.{new}
@@ -25,10 +25,8 @@ use Rattle.volume.specs.inner.Check.{check_answer}
 use Rattle.volume.specs.Writing.{write_answer, append_answer}
 use Rattle.volume.specs.declared.Bookmark.{Bookmark}
 use Rattle.volume.specs.declared.Found.{Found}
-use Rattle.volume.specs.declared.ReadAnswer.TheVariants as ReadAnswer
 use Rattle.chain.specs.Pairing.{pair_answer}
-use Rattle.chain.specs.declared.Pairing.{Pairing}
-use Rattle.chain.specs.declared.Pairing.TheVariants.{Follows, FirstRefused, SecondRefused, DoesNotFollow}
+use Rattle.chain.specs.Answers.{Pairing}
 use Rattle.repair.specs.Repairing.{repair_answer}
 use Rattle.tree.specs.Listing.{tree_answer}
 use Rattle.lookup.specs.inner.Answers.{position_answer, runs_answer}
@@ -39,6 +37,7 @@ use Rattle.exchange.specs.Walking.{heading_numbers, block_numbers, link_numbers,
 use Rattle.exchange.specs.Places.{place_numbers, run_count_numbers}
 use Rattle.exchange.specs.Writing.{written_numbers}
 use Rattle.digests.specs.States.{SizedState, state_bytes, state_of}
+use Rattle.chain.specs.declared.PairFault.TheVariants.{FirstRefused, SecondRefused, DoesNotFollow}
 use Rattle.exchange.specs.Pairs.{pair_numbers}
 use Rattle.exchange.specs.Repairs.{repair_numbers}
 use Rattle.exchange.specs.Trees.{line_numbers}
@@ -79,10 +78,10 @@ pub record TableTold (volume : List ℕ) (n : BlockNumbers) (links : List TableL
 
 -- what of the check of a pair goes out: all but the number of blocks before a fault
 abbrev pub without_blocks : Pairing → Pairing
-without_blocks Follows = Follows
-without_blocks (FirstRefused r) = FirstRefused (record { refusal = r.refusal; offset = r.offset; blocks = 0 })
-without_blocks (SecondRefused r) = SecondRefused (record { refusal = r.refusal; offset = r.offset; blocks = 0 })
-without_blocks DoesNotFollow = DoesNotFollow
+without_blocks (Ok tt) = Ok tt
+without_blocks (Err (FirstRefused r)) = Err (FirstRefused (record { refusal = r.refusal; offset = r.offset; blocks = 0 }))
+without_blocks (Err (SecondRefused r)) = Err (SecondRefused (record { refusal = r.refusal; offset = r.offset; blocks = 0 }))
+without_blocks (Err DoesNotFollow) = Err DoesNotFollow
 
 -- What is claimed of the boundary.
 pub record Crossing : Type 0 where
@@ -118,7 +117,7 @@ pub record Crossing : Type 0 where
   pub table_links_lem :
       (volume : List ℕ) (mark : Bookmark) (found : Found) (table : TableBlock)
       → Bytes volume
-      → read_answer volume mark ≡ ReadAnswer.Found found
+      → read_answer volume mark ≡ Ok (Some found)
       → found.block ≡ Table table
       → (of : LinksOf table.count (bytes_of volume table.links))
       × TableTold volume (block_numbers (read_answer volume mark)) of.links
@@ -140,7 +139,7 @@ pub record Crossing : Type 0 where
   -- hdrfs_pair
   pub pair : (first second : List ℕ) → pair_back (pair_numbers (pair_answer first second)) ≡ without_blocks (pair_answer first second)
   -- whoever looks at the refusal alone is right: no volume's own refusal has the number 0
-  pub pair_refused : (first second : List ℕ) → ((pair_numbers (pair_answer first second)).refusal ≡ 0) ↔ (pair_answer first second ≡ Follows)
+  pub pair_refused : (first second : List ℕ) → ((pair_numbers (pair_answer first second)).refusal ≡ 0) ↔ (pair_answer first second ≡ Ok tt)
   -- hdrfs_repair
   pub repair : (volume : List ℕ) → Crosses repair_numbers repair_back (repair_answer volume)
   -- hdrfs_tree

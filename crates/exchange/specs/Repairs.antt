@@ -1,8 +1,8 @@
 -- What repairing a volume answers, as numbers.
-use Rattle.repair.specs.declared.RepairAnswer.{RepairAnswer}
-use Rattle.repair.specs.declared.RepairAnswer.TheVariants.{Length, Refused}
+use Rattle.std.specs.Prelude.{Ok, Err}
+use Rattle.repair.specs.Answers.{RepairAnswer}
 use Rattle.exchange.specs.declared.RepairNumbers.{RepairNumbers}
 
 unfoldable pub repair_numbers : RepairAnswer → RepairNumbers
-repair_numbers (Length n) = record { refusal = 0; text = 0; start = 0; length = n }
-repair_numbers (Refused r) = record { refusal = r.number; text = r.text; start = r.start; length = 0 }
+repair_numbers (Ok n) = record { refusal = 0; text = 0; start = 0; length = n }
+repair_numbers (Err r) = record { refusal = r.number; text = r.text; start = r.start; length = 0 }

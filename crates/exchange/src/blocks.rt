@@ -1,173 +1,142 @@
-// A block as numbers, a function for each kind. Each begins with the numbers that every kind has and stores its own.
+// A block as numbers, a function for each kind, since each has other fields. Each begins with the numbers that every kind has and stores
+// its own.
 ghost use Rattle.std.specs.Prelude.{◌≡◌, cond, []};
 ghost use lib.Text.{eqt};
+ghost use Rattle.format.specs.Blocks.{id_of};
+ghost use Rattle.format.specs.Kinds.{kind_named};
 ghost use Rattle.block.specs.declared.Block.TheVariants.{Inode, Link, Unlink, Xattr, RemovedXattr, Data, Rename, Table};
 ghost use Rattle.refusal.specs.Refusal.{refusal_of};
-ghost use Rattle.exchange.specs.Blocks.{numbers_with, found_numbers, no_block};
+ghost use Rattle.exchange.specs.Blocks.{numbers_with, found_numbers};
 
 use crate::BlockNumbers;
-use crate::marks::{flag_number, time_number, timed_number};
+use crate::marks::{time_number, timed_number};
 use block::{
     Block, DataBlock, InodeBlock, LinkBlock, RemovedXattrBlock, RenameBlock, TableBlock, XattrBlock,
 };
-use refusal::Refusal;
-use volume::{Bookmark, LastTime};
+use format::kind::Kind;
+use volume::Bookmark;
 
 // The numbers that an answer begins with: those that every kind of block has, and 0 for those that only some have. The
 // block's own number is stored last, by whoever has read the block.
-fn begun(end: u64, id: u64, time: u64, next: Bookmark) -> BlockNumbers
-    ensures { result ≡ numbers_with (refusal_of 0) end id 0 next (λ name. cond (eqt name "time") time 0) [] }
+fn begun(kind: Kind, time: u64, next: Bookmark) -> BlockNumbers
+    ensures { result ≡ numbers_with (refusal_of 0) 0 (id_of (kind_named kind)) 0 next (λ name. cond (eqt name "time") time 0) [] }
 {
-    let last = next.last;
-    let due = flag_number(next.due);
-    let timed = timed_number(last);
-    let past = time_number(last);
     BlockNumbers {
-        refusal: 0,
-        text: 0,
-        start: 0,
-        end,
-        id,
-        number: 0,
+        id: kind as u64,
         next: next.offset as u64,
-        due,
-        timed,
-        last: past,
+        due: next.due.into(),
+        timed: timed_number(next.last),
+        last: time_number(next.last),
         nextnumber: next.number,
         time,
-        inode: 0,
-        child: 0,
-        parent: 0,
-        mode: 0,
-        uid: 0,
-        gid: 0,
-        atime: 0,
-        mtime: 0,
-        ctime: 0,
-        btime: 0,
-        size: 0,
-        count: 0,
-        part: 0,
-        partlen: 0,
-        second: 0,
-        secondlen: 0,
+        ..Default::default()
     }
 }
 
-// No block: a refusal, or 1 for "end".
-pub(crate) fn no_block(refusal: Refusal, end: u64) -> BlockNumbers
-    ensures { result ≡ no_block refusal end }
-{
-    let none = Bookmark {
-        offset: 0,
-        due: false,
-        last: LastTime::Never,
-        number: 0,
-    };
-    let mut numbers = begun(end, 0, 0, none);
-    numbers.refusal = refusal.number;
-    numbers.text = refusal.text;
-    numbers.start = refusal.start;
-    numbers
-}
-
+#[tactic(auto, unfolding(crate::specs::Blocks::found_numbers, block::specs::Shown::shown))]
 fn inode_numbers(block: InodeBlock, next: Bookmark) -> BlockNumbers
     ensures { result ≡ found_numbers (Inode block) 0 next }
 {
-    let mut numbers = begun(0, 1, block.time, next);
-    let rest = block.rest;
-    numbers.inode = block.number;
-    numbers.mode = block.mode as u64;
-    numbers.uid = block.uid as u64;
-    numbers.gid = block.gid as u64;
-    numbers.atime = block.atime;
-    numbers.mtime = block.mtime;
-    numbers.ctime = block.ctime;
-    numbers.btime = block.btime;
-    numbers.size = block.size;
-    numbers.part = rest.offset as u64;
-    numbers.partlen = rest.len as u64;
-    numbers
+    BlockNumbers {
+        inode: block.number,
+        mode: block.mode.into(),
+        uid: block.uid.into(),
+        gid: block.gid.into(),
+        atime: block.atime,
+        mtime: block.mtime,
+        ctime: block.ctime,
+        btime: block.btime,
+        size: block.size,
+        part: block.rest.offset as u64,
+        partlen: block.rest.len as u64,
+        ..begun(Kind::Inode, block.time, next)
+    }
 }
 
-// The numbers of a link, which has ID 2. An unlink has the same with ID 3.
+// The numbers of a link. An unlink has the same but for the ID.
+#[tactic(auto, unfolding(crate::specs::Blocks::found_numbers, block::specs::Shown::shown))]
 fn link_numbers(block: LinkBlock, next: Bookmark) -> BlockNumbers
     ensures { result ≡ found_numbers (Link block) 0 next }
 {
-    let mut numbers = begun(0, 2, block.time, next);
-    let name = block.name;
-    numbers.child = block.child;
-    numbers.parent = block.parent;
-    numbers.part = name.offset as u64;
-    numbers.partlen = name.len as u64;
-    numbers
+    BlockNumbers {
+        child: block.child,
+        parent: block.parent,
+        part: block.name.offset as u64,
+        partlen: block.name.len as u64,
+        ..begun(Kind::Link, block.time, next)
+    }
 }
 
+#[tactic(auto, unfolding(crate::specs::Blocks::found_numbers, block::specs::Shown::shown))]
 fn unlink_numbers(block: LinkBlock, next: Bookmark) -> BlockNumbers
     ensures { result ≡ found_numbers (Unlink block) 0 next }
 {
-    let mut numbers = link_numbers(block, next);
-    numbers.id = 3;
-    numbers
+    BlockNumbers {
+        id: Kind::Unlink as u64,
+        ..link_numbers(block, next)
+    }
 }
 
+#[tactic(auto, unfolding(crate::specs::Blocks::found_numbers, block::specs::Shown::shown))]
 fn xattr_numbers(block: XattrBlock, next: Bookmark) -> BlockNumbers
     ensures { result ≡ found_numbers (Xattr block) 0 next }
 {
-    let mut numbers = begun(0, 4, block.time, next);
-    let name = block.name;
-    let value = block.value;
-    numbers.inode = block.number;
-    numbers.part = name.offset as u64;
-    numbers.partlen = name.len as u64;
-    numbers.second = value.offset as u64;
-    numbers.secondlen = value.len as u64;
-    numbers
+    BlockNumbers {
+        inode: block.number,
+        part: block.name.offset as u64,
+        partlen: block.name.len as u64,
+        second: block.value.offset as u64,
+        secondlen: block.value.len as u64,
+        ..begun(Kind::Xattr, block.time, next)
+    }
 }
 
+#[tactic(auto, unfolding(crate::specs::Blocks::found_numbers, block::specs::Shown::shown))]
 fn removed_xattr_numbers(block: RemovedXattrBlock, next: Bookmark) -> BlockNumbers
     ensures { result ≡ found_numbers (RemovedXattr block) 0 next }
 {
-    let mut numbers = begun(0, 5, block.time, next);
-    let name = block.name;
-    numbers.inode = block.number;
-    numbers.part = name.offset as u64;
-    numbers.partlen = name.len as u64;
-    numbers
+    BlockNumbers {
+        inode: block.number,
+        part: block.name.offset as u64,
+        partlen: block.name.len as u64,
+        ..begun(Kind::RemovedXattr, block.time, next)
+    }
 }
 
+#[tactic(auto, unfolding(crate::specs::Blocks::found_numbers, block::specs::Shown::shown))]
 fn data_numbers(block: DataBlock, next: Bookmark) -> BlockNumbers
     ensures { result ≡ found_numbers (Data block) 0 next }
 {
-    let mut numbers = begun(0, 6, block.time, next);
-    let payload = block.payload;
-    numbers.part = payload.offset as u64;
-    numbers.partlen = payload.len as u64;
-    numbers
+    BlockNumbers {
+        part: block.payload.offset as u64,
+        partlen: block.payload.len as u64,
+        ..begun(Kind::Data, block.time, next)
+    }
 }
 
+#[tactic(auto, unfolding(crate::specs::Blocks::found_numbers, block::specs::Shown::shown))]
 fn rename_numbers(block: RenameBlock, next: Bookmark) -> BlockNumbers
     ensures { result ≡ found_numbers (Rename block) 0 next }
 {
-    let mut numbers = begun(0, 7, block.time, next);
-    let old = block.old;
-    let new = block.new;
-    numbers.part = old.offset as u64;
-    numbers.partlen = old.len as u64;
-    numbers.second = new.offset as u64;
-    numbers.secondlen = new.len as u64;
-    numbers
+    BlockNumbers {
+        part: block.old.offset as u64,
+        partlen: block.old.len as u64,
+        second: block.new.offset as u64,
+        secondlen: block.new.len as u64,
+        ..begun(Kind::Rename, block.time, next)
+    }
 }
 
+#[tactic(auto, unfolding(crate::specs::Blocks::found_numbers, block::specs::Shown::shown))]
 fn table_numbers(block: TableBlock, next: Bookmark) -> BlockNumbers
     ensures { result ≡ found_numbers (Table block) 0 next }
 {
-    let mut numbers = begun(0, 8, 0, next);
-    let links = block.links;
-    numbers.count = block.count;
-    numbers.part = links.offset as u64;
-    numbers.partlen = links.len as u64;
-    numbers
+    BlockNumbers {
+        count: block.count,
+        part: block.links.offset as u64,
+        partlen: block.links.len as u64,
+        ..begun(Kind::Table, 0, next)
+    }
 }
 
 // A block and the bookmark after it, without the block's own number.

@@ -1,8 +1,10 @@
 // The calls for programs in other languages, as include/hdrfs.h declares them: numbers and byte slices in, numbers out.
 //
 // Each turns the answer of a public call of `volume`, `links`, `extent`, `lookup`, `sha256`, `chain`, `repair` or `tree` into numbers, by a
-// definition in specs/. The structs below have the fields of those in the header file, in its order; wherever a refusal can come, it has three of
-// them. The calls of `digesting` have no struct: a digest goes to lent bytes, and so does a state, and the refusal is the answer.
+// definition in specs/. The structs below have the fields of those in the header file, in its order; wherever a refusal can come, it has
+// three of them. These stand in each struct, and each conversion fills them, since the header file has no struct for a refusal alone. The
+// calls of `digesting` have no struct: a digest goes to lent bytes, and so does a state, and the refusal is the answer.
+// A bookmark crosses as five numbers, and an answer as a struct of numbers: the C interface has no Option, no Result and no enum.
 // `checking` has the check of a whole volume, `walking` the header, the blocks, the links and the extents one by one, `places`
 // positions and runs, `sources` the fetching of bytes, `writing` the writing of a header and the appends, `digesting` SHA-256,
 // `pairs` the check of a pair of volumes, `repairs` the repair of a volume whose end is cut off, and `trees` the listing of a tree.
@@ -22,7 +24,7 @@ pub mod writing;
 
 // What the check of a whole volume answers: hdrfs_checked.
 #[repr(C)]
-#[derive(Clone, Copy)]
+#[derive(Clone, Copy, Default)]
 pub struct CheckNumbers {
     pub refusal: u64,
     pub text: u64,
@@ -36,7 +38,7 @@ pub struct CheckNumbers {
 
 // What reading a header answers: hdrfs_heading.
 #[repr(C)]
-#[derive(Clone, Copy)]
+#[derive(Clone, Copy, Default)]
 pub struct HeadingNumbers {
     pub refusal: u64,
     pub text: u64,
@@ -50,7 +52,7 @@ pub struct HeadingNumbers {
 
 // What reading a block answers: hdrfs_block.
 #[repr(C)]
-#[derive(Clone, Copy)]
+#[derive(Clone, Copy, Default)]
 pub struct BlockNumbers {
     pub refusal: u64,
     pub text: u64,
@@ -84,7 +86,7 @@ pub struct BlockNumbers {
 
 // What reading a link of a table answers: hdrfs_link_entry.
 #[repr(C)]
-#[derive(Clone, Copy)]
+#[derive(Clone, Copy, Default)]
 pub struct LinkNumbers {
     pub missing: u64,
     pub child: u64,
@@ -110,7 +112,7 @@ pub struct ExtentNumbers {
 
 // What looking up a position answers: hdrfs_place.
 #[repr(C)]
-#[derive(Clone, Copy)]
+#[derive(Clone, Copy, Default)]
 pub struct PlaceNumbers {
     pub refusal: u64,
     pub text: u64,
@@ -122,7 +124,7 @@ pub struct PlaceNumbers {
 
 // What a range query answers beside the runs: hdrfs_run_count.
 #[repr(C)]
-#[derive(Clone, Copy)]
+#[derive(Clone, Copy, Default)]
 pub struct RunCountNumbers {
     pub refusal: u64,
     pub text: u64,
@@ -132,7 +134,7 @@ pub struct RunCountNumbers {
 
 // Which of two volumes has the bytes: hdrfs_source.
 #[repr(C)]
-#[derive(Clone, Copy)]
+#[derive(Clone, Copy, Default)]
 pub struct SourceNumbers {
     pub refusal: u64,
     pub text: u64,
@@ -142,7 +144,7 @@ pub struct SourceNumbers {
 
 // What writing a header or appending a block answers, the bookmark after it: hdrfs_written.
 #[repr(C)]
-#[derive(Clone, Copy)]
+#[derive(Clone, Copy, Default)]
 pub struct MarkNumbers {
     pub refusal: u64,
     pub text: u64,
@@ -156,7 +158,7 @@ pub struct MarkNumbers {
 
 // What the check of a pair of volumes answers: hdrfs_paired.
 #[repr(C)]
-#[derive(Clone, Copy)]
+#[derive(Clone, Copy, Default)]
 pub struct PairNumbers {
     pub refusal: u64,
     pub text: u64,
@@ -167,7 +169,7 @@ pub struct PairNumbers {
 
 // What repairing a volume answers: hdrfs_repaired.
 #[repr(C)]
-#[derive(Clone, Copy)]
+#[derive(Clone, Copy, Default)]
 pub struct RepairNumbers {
     pub refusal: u64,
     pub text: u64,
@@ -177,7 +179,7 @@ pub struct RepairNumbers {
 
 // What listing the tree of a link table answers beside the lines: hdrfs_lines.
 #[repr(C)]
-#[derive(Clone, Copy)]
+#[derive(Clone, Copy, Default)]
 pub struct LineNumbers {
     pub refusal: u64,
     pub text: u64,

@@ -4,44 +4,43 @@ ghost use Rattle.chain.specs.Pairing.{pair_answer};
 ghost use Rattle.exchange.specs.Pairs.{fault_in, pair_numbers};
 
 use crate::PairNumbers;
-use chain::{Pairing, pair};
-use refusal::DOES_NOT_FOLLOW;
+use chain::{PairFault, pair};
+use refusal::Fault;
 use volume::Rejected;
+
+#[tactic(auto, unfolding(crate::specs::Pairs::pair_numbers))]
+impl From<Result<(), PairFault>> for PairNumbers {
+    ghost from_gives = { λ answer numbers. numbers ≡ pair_numbers answer };
+
+    fn from(answer: Result<(), PairFault>) -> PairNumbers {
+        match answer {
+            Ok(()) => PairNumbers::default(),
+            Err(PairFault::FirstRefused(rejected)) => fault_in(1, rejected),
+            Err(PairFault::SecondRefused(rejected)) => fault_in(2, rejected),
+            Err(PairFault::DoesNotFollow) => PairNumbers {
+                refusal: Fault::DoesNotFollow.into(),
+                ..Default::default()
+            },
+        }
+    }
+}
 
 // Whether both volumes are accepted and the second follows the first.
 #[unsafe(no_mangle)]
 pub extern "C" fn hdrfs_pair(first: &[u8], second: &[u8]) -> PairNumbers
     ensures { result ≡ pair_numbers (pair_answer first.now second.now) }
 {
-    match pair(first, second) {
-        Pairing::Follows => PairNumbers {
-            refusal: 0,
-            text: 0,
-            start: 0,
-            which: 0,
-            offset: 0,
-        },
-        Pairing::FirstRefused(rejected) => fault_in(1, rejected),
-        Pairing::SecondRefused(rejected) => fault_in(2, rejected),
-        Pairing::DoesNotFollow => PairNumbers {
-            refusal: DOES_NOT_FOLLOW,
-            text: 0,
-            start: 0,
-            which: 0,
-            offset: 0,
-        },
-    }
+    pair(first, second).into()
 }
 
 // A fault of one of the two volumes, and where it is.
 fn fault_in(which: u64, rejected: Rejected) -> PairNumbers
     ensures { result ≡ fault_in which rejected }
 {
-    let refusal = rejected.refusal;
     PairNumbers {
-        refusal: refusal.number,
-        text: refusal.text,
-        start: refusal.start,
+        refusal: rejected.refusal.fault().into(),
+        text: rejected.refusal.text(),
+        start: rejected.refusal.start(),
         which,
         offset: rejected.offset as u64,
     }

@@ -5,7 +5,60 @@ ghost use Rattle.exchange.specs.Places.{place_numbers, run_count_numbers};
 
 use crate::{PlaceNumbers, RunCountNumbers};
 use format::Logical;
-use lookup::{PositionAnswer, RunsAnswer, query};
+use lookup::{Position, query};
+use refusal::Refusal;
+
+// The kinds of what stands at a position.
+const STORED: u64 = 1;
+
+const PAST_END: u64 = 2;
+
+#[tactic(auto, unfolding(crate::specs::Places::place_numbers))]
+impl From<Result<Position, Refusal>> for PlaceNumbers {
+    ghost from_gives = { λ answer numbers. numbers ≡ place_numbers answer };
+
+    fn from(answer: Result<Position, Refusal>) -> PlaceNumbers {
+        match answer {
+            Ok(Position::Hole) => PlaceNumbers::default(),
+            Ok(Position::PastEnd) => PlaceNumbers {
+                kind: PAST_END,
+                ..Default::default()
+            },
+            Ok(Position::Stored(stored)) => PlaceNumbers {
+                kind: STORED,
+                volume: stored.volume,
+                offset: stored.offset.0,
+                ..Default::default()
+            },
+            Err(refusal) => PlaceNumbers {
+                refusal: refusal.fault().into(),
+                text: refusal.text(),
+                start: refusal.start(),
+                ..Default::default()
+            },
+        }
+    }
+}
+
+#[tactic(auto, unfolding(crate::specs::Places::run_count_numbers))]
+impl From<Result<u64, Refusal>> for RunCountNumbers {
+    ghost from_gives = { λ answer numbers. numbers ≡ run_count_numbers answer };
+
+    fn from(answer: Result<u64, Refusal>) -> RunCountNumbers {
+        match answer {
+            Ok(count) => RunCountNumbers {
+                count,
+                ..Default::default()
+            },
+            Err(refusal) => RunCountNumbers {
+                refusal: refusal.fault().into(),
+                text: refusal.text(),
+                start: refusal.start(),
+                ..Default::default()
+            },
+        }
+    }
+}
 
 // What stands at a position of the file whose inode block is at `offset`, in one call.
 #[unsafe(no_mangle)]
@@ -17,44 +70,11 @@ pub extern "C" fn hdrfs_lookup(
 ) -> PlaceNumbers
     ensures { result ≡ place_numbers (position_answer volume.now offset lengths.now position) }
 {
-    match query::position(volume, offset as usize, lengths, Logical(position)) {
-        PositionAnswer::Hole => PlaceNumbers {
-            refusal: 0,
-            text: 0,
-            start: 0,
-            kind: 0,
-            volume: 0,
-            offset: 0,
-        },
-        PositionAnswer::PastEnd => PlaceNumbers {
-            refusal: 0,
-            text: 0,
-            start: 0,
-            kind: 2,
-            volume: 0,
-            offset: 0,
-        },
-        PositionAnswer::Stored(stored) => {
-            let place = stored.offset;
-            PlaceNumbers {
-                refusal: 0,
-                text: 0,
-                start: 0,
-                kind: 1,
-                volume: stored.volume,
-                offset: place.0,
-            }
-        }
-        PositionAnswer::Refused(refusal) => PlaceNumbers {
-            refusal: refusal.number,
-            text: refusal.text,
-            start: refusal.start,
-            kind: 0,
-            volume: 0,
-            offset: 0,
-        },
-    }
+    query::position(volume, offset as usize, lengths, Logical(position)).into()
 }
+
+// The calls from here to hdrfs_lookup_offset answer one number of the lookup each: the C interface has them for callers that take one
+// number at a time.
 
 // 0 where the lookup is not refused, else the refusal's number.
 #[unsafe(no_mangle)]
@@ -66,8 +86,7 @@ pub extern "C" fn hdrfs_lookup_refusal(
 ) -> u64
     ensures { result ≡ (place_numbers (position_answer volume.now offset lengths.now position)).refusal }
 {
-    let all = hdrfs_lookup(volume, offset, lengths, position);
-    all.refusal
+    hdrfs_lookup(volume, offset, lengths, position).refusal
 }
 
 // Which text of the block is bad; 0 where the refusal is not 10.
@@ -80,8 +99,7 @@ pub extern "C" fn hdrfs_lookup_text(
 ) -> u64
     ensures { result ≡ (place_numbers (position_answer volume.now offset lengths.now position)).text }
 {
-    let all = hdrfs_lookup(volume, offset, lengths, position);
-    all.text
+    hdrfs_lookup(volume, offset, lengths, position).text
 }
 
 // Where in that text the first ill-formed sequence starts; 0 where the refusal is not 10.
@@ -94,8 +112,7 @@ pub extern "C" fn hdrfs_lookup_start(
 ) -> u64
     ensures { result ≡ (place_numbers (position_answer volume.now offset lengths.now position)).start }
 {
-    let all = hdrfs_lookup(volume, offset, lengths, position);
-    all.start
+    hdrfs_lookup(volume, offset, lengths, position).start
 }
 
 // 0 for a hole, 1 for a stored byte, 2 past the end; 0 where the lookup is refused.
@@ -108,8 +125,7 @@ pub extern "C" fn hdrfs_lookup_kind(
 ) -> u64
     ensures { result ≡ (place_numbers (position_answer volume.now offset lengths.now position)).kind }
 {
-    let all = hdrfs_lookup(volume, offset, lengths, position);
-    all.kind
+    hdrfs_lookup(volume, offset, lengths, position).kind
 }
 
 // The sequence number of the volume that has the byte; 0 where no byte is stored.
@@ -122,8 +138,7 @@ pub extern "C" fn hdrfs_lookup_volume(
 ) -> u64
     ensures { result ≡ (place_numbers (position_answer volume.now offset lengths.now position)).volume }
 {
-    let all = hdrfs_lookup(volume, offset, lengths, position);
-    all.volume
+    hdrfs_lookup(volume, offset, lengths, position).volume
 }
 
 // Where the byte stands in that volume; 0 where no byte is stored.
@@ -136,8 +151,7 @@ pub extern "C" fn hdrfs_lookup_offset(
 ) -> u64
     ensures { result ≡ (place_numbers (position_answer volume.now offset lengths.now position)).offset }
 {
-    let all = hdrfs_lookup(volume, offset, lengths, position);
-    all.offset
+    hdrfs_lookup(volume, offset, lengths, position).offset
 }
 
 // The runs from `from` to below `to`, stored in `out`, five numbers each; the answer says how many there are.
@@ -155,25 +169,13 @@ pub extern "C" fn hdrfs_runs(
     ensures room { out.new ≡ runs_room volume.now offset lengths.now from to
         out.old }
 {
-    match query::runs(
+    query::runs(
         volume,
         offset as usize,
         lengths,
         Logical(from),
         Logical(to),
         out,
-    ) {
-        RunsAnswer::Runs(count) => RunCountNumbers {
-            refusal: 0,
-            text: 0,
-            start: 0,
-            count,
-        },
-        RunsAnswer::Refused(refusal) => RunCountNumbers {
-            refusal: refusal.number,
-            text: refusal.text,
-            start: refusal.start,
-            count: 0,
-        },
-    }
+    )
+    .into()
 }

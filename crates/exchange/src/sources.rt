@@ -7,6 +7,7 @@ use format::Physical;
 use lookup::bytes::fetch_refusal;
 
 // Which of two volumes has `len` bytes at `offset` of the volume with this sequence number.
+#[tactic(auto, unfolding(crate::specs::Sources::source_of))]
 #[unsafe(no_mangle)]
 pub extern "C" fn hdrfs_fetch(
     first: &[u8],
@@ -18,27 +19,14 @@ pub extern "C" fn hdrfs_fetch(
     ensures { result ≡ source_of first.now second.now number offset len }
 {
     // No text is looked at in fetching, so no refusal here has anything to say of one.
-    let refusal = fetch_refusal(first, second, number, Physical(offset), len);
-    if refusal != 0 {
-        return SourceNumbers {
-            refusal,
-            text: 0,
-            start: 0,
-            which: 0,
-        };
-    }
-    if number::read_u64(first, 36) == number {
-        return SourceNumbers {
-            refusal: 0,
-            text: 0,
-            start: 0,
-            which: 0,
-        };
-    }
-    SourceNumbers {
-        refusal: 0,
-        text: 0,
-        start: 0,
-        which: 1,
+    match fetch_refusal(first, second, number, Physical(offset), len) {
+        Ok(()) => SourceNumbers {
+            which: (number::read_u64(first, 36) != number).into(),
+            ..Default::default()
+        },
+        Err(fault) => SourceNumbers {
+            refusal: fault.into(),
+            ..Default::default()
+        },
     }
 }

@@ -6,7 +6,28 @@ ghost use Rattle.exchange.specs.Trees.{line_numbers};
 
 use crate::LineNumbers;
 use crate::marks::bookmark_of;
-use tree::{TreeAnswer, tree};
+use refusal::Refusal;
+use tree::tree;
+
+#[tactic(auto, unfolding(crate::specs::Trees::line_numbers))]
+impl From<Result<u64, Refusal>> for LineNumbers {
+    ghost from_gives = { λ answer numbers. numbers ≡ line_numbers answer };
+
+    fn from(answer: Result<u64, Refusal>) -> LineNumbers {
+        match answer {
+            Ok(lines) => LineNumbers {
+                lines,
+                ..Default::default()
+            },
+            Err(refusal) => LineNumbers {
+                refusal: refusal.fault().into(),
+                text: refusal.text(),
+                start: refusal.start(),
+                ..Default::default()
+            },
+        }
+    }
+}
 
 // The tree below `root` of the table at the bookmark that the four numbers give. A table is due there, whatever else: so no number says it.
 #[unsafe(no_mangle)]
@@ -24,18 +45,5 @@ pub extern "C" fn hdrfs_tree(
     ensures list { out.new ≡ tree_room volume.now (bookmark_of offset 1 timed time number) root out.old }
 {
     let mark = bookmark_of(offset, 1, timed, time, number);
-    match tree(volume, mark, root, out) {
-        TreeAnswer::Lines(lines) => LineNumbers {
-            refusal: 0,
-            text: 0,
-            start: 0,
-            lines,
-        },
-        TreeAnswer::Refused(refusal) => LineNumbers {
-            refusal: refusal.number,
-            text: refusal.text,
-            start: refusal.start,
-            lines: 0,
-        },
-    }
+    tree(volume, mark, root, out).into()
 }

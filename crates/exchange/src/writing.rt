@@ -1,46 +1,42 @@
 // Writing a header and appending blocks, as numbers.
 //
 // Each append makes a bookmark of five numbers, which are those that the call before answered, and answers the numbers of
-// the bookmark after the block. A refusal leaves the buffer as it was.
+// the bookmark after the block. A refusal leaves the buffer as it was. Each kind of block has a call of its own, as the C interface has
+// no enum that holds fields.
 ghost use Rattle.std.specs.Prelude.{◌≡◌, length};
-ghost use Rattle.format.specs.Blocks.{Inode, Link, Unlink, Xattr, RemovedXattr, Data, Rename, Table};
+ghost use Rattle.format.specs.Blocks as format;
 ghost use Rattle.volume.specs.Writing.{append_answer, append_buffer, write_answer, write_buffer};
 ghost use Rattle.exchange.specs.Marks.{bookmark_of};
 ghost use Rattle.exchange.specs.Writing.{written_numbers};
 
 use crate::MarkNumbers;
-use crate::marks::{bookmark_of, flag_number, time_number, timed_number};
-use volume::WriteAnswer;
+use crate::marks::{bookmark_of, time_number, timed_number};
+use format::new_block::{Data, Inode, Link, NewBlock, RemovedXattr, Rename, Table, Xattr};
+use refusal::Refusal;
+use volume::Bookmark;
 use volume::heading::write_header;
 
-// The bookmark after what was written, or the refusal's number.
-fn written_numbers(answer: WriteAnswer) -> MarkNumbers
-    ensures { result ≡ written_numbers answer }
-{
-    match answer {
-        WriteAnswer::Next(mark) => {
-            let last = mark.last;
-            MarkNumbers {
-                refusal: 0,
-                text: 0,
-                start: 0,
+#[tactic(auto, unfolding(crate::specs::Writing::written_numbers))]
+impl From<Result<Bookmark, Refusal>> for MarkNumbers {
+    ghost from_gives = { λ answer numbers. numbers ≡ written_numbers answer };
+
+    fn from(answer: Result<Bookmark, Refusal>) -> MarkNumbers {
+        match answer {
+            Ok(mark) => MarkNumbers {
                 next: mark.offset as u64,
-                due: flag_number(mark.due),
-                timed: timed_number(last),
-                last: time_number(last),
+                due: mark.due.into(),
+                timed: timed_number(mark.last),
+                last: time_number(mark.last),
                 number: mark.number,
-            }
+                ..Default::default()
+            },
+            Err(refusal) => MarkNumbers {
+                refusal: refusal.fault().into(),
+                text: refusal.text(),
+                start: refusal.start(),
+                ..Default::default()
+            },
         }
-        WriteAnswer::Refused(refusal) => MarkNumbers {
-            refusal: refusal.number,
-            text: refusal.text,
-            start: refusal.start,
-            next: 0,
-            due: 0,
-            timed: 0,
-            last: 0,
-            number: 0,
-        },
     }
 }
 
@@ -57,7 +53,7 @@ pub extern "C" fn hdrfs_write_header(
     ensures buffer { buf.new ≡ write_buffer buf.old
         (record { id = id.entry.now; sequence = sequence; previous = previous.now }) }
 {
-    written_numbers(write_header(buf, id, sequence, previous))
+    write_header(buf, id, sequence, previous).into()
 }
 
 // Appends an inode block, `rest` being its target or its list of extents.
@@ -82,14 +78,25 @@ pub extern "C" fn hdrfs_append_inode(
     rest: &[u8],
 ) -> MarkNumbers
     ensures answer { result ≡ written_numbers (append_answer (length buf.old) (bookmark_of offset due timed last number)
-        (Inode (record { inode = inode; time = time; mode = mode; uid = uid; gid = gid; atime = atime; mtime = mtime; ctime = ctime; btime = btime; size = size; rest = rest.now }))) }
+        (format.Inode (record { inode = inode; time = time; mode = mode; uid = uid; gid = gid; atime = atime; mtime = mtime; ctime = ctime; btime = btime; size = size; rest = rest.now }))) }
     ensures buffer { buf.new ≡ append_buffer buf.old (bookmark_of offset due timed last number)
-        (Inode (record { inode = inode; time = time; mode = mode; uid = uid; gid = gid; atime = atime; mtime = mtime; ctime = ctime; btime = btime; size = size; rest = rest.now })) }
+        (format.Inode (record { inode = inode; time = time; mode = mode; uid = uid; gid = gid; atime = atime; mtime = mtime; ctime = ctime; btime = btime; size = size; rest = rest.now })) }
 {
     let mark = bookmark_of(offset, due, timed, last, number);
-    written_numbers(mark.append_inode(
-        buf, inode, time, mode, uid, gid, atime, mtime, ctime, btime, size, rest,
-    ))
+    let block = NewBlock::Inode(Inode {
+        inode,
+        time,
+        mode,
+        uid,
+        gid,
+        atime,
+        mtime,
+        ctime,
+        btime,
+        size,
+        rest,
+    });
+    mark.append(buf, block).into()
 }
 
 // Appends a link block.
@@ -107,12 +114,18 @@ pub extern "C" fn hdrfs_append_link(
     name: &[u8],
 ) -> MarkNumbers
     ensures answer { result ≡ written_numbers (append_answer (length buf.old) (bookmark_of offset due timed last number)
-        (Link (record { time = time; child = child; parent = parent; name = name.now }))) }
+        (format.Link (record { time = time; child = child; parent = parent; name = name.now }))) }
     ensures buffer { buf.new ≡ append_buffer buf.old (bookmark_of offset due timed last number)
-        (Link (record { time = time; child = child; parent = parent; name = name.now })) }
+        (format.Link (record { time = time; child = child; parent = parent; name = name.now })) }
 {
     let mark = bookmark_of(offset, due, timed, last, number);
-    written_numbers(mark.append_link(buf, time, child, parent, name))
+    let block = NewBlock::Link(Link {
+        time,
+        child,
+        parent,
+        name,
+    });
+    mark.append(buf, block).into()
 }
 
 // Appends an unlink block.
@@ -130,12 +143,18 @@ pub extern "C" fn hdrfs_append_unlink(
     name: &[u8],
 ) -> MarkNumbers
     ensures answer { result ≡ written_numbers (append_answer (length buf.old) (bookmark_of offset due timed last number)
-        (Unlink (record { time = time; child = child; parent = parent; name = name.now }))) }
+        (format.Unlink (record { time = time; child = child; parent = parent; name = name.now }))) }
     ensures buffer { buf.new ≡ append_buffer buf.old (bookmark_of offset due timed last number)
-        (Unlink (record { time = time; child = child; parent = parent; name = name.now })) }
+        (format.Unlink (record { time = time; child = child; parent = parent; name = name.now })) }
 {
     let mark = bookmark_of(offset, due, timed, last, number);
-    written_numbers(mark.append_unlink(buf, time, child, parent, name))
+    let block = NewBlock::Unlink(Link {
+        time,
+        child,
+        parent,
+        name,
+    });
+    mark.append(buf, block).into()
 }
 
 // Appends an xattr block.
@@ -153,12 +172,18 @@ pub extern "C" fn hdrfs_append_xattr(
     value: &[u8],
 ) -> MarkNumbers
     ensures answer { result ≡ written_numbers (append_answer (length buf.old) (bookmark_of offset due timed last number)
-        (Xattr (record { time = time; inode = inode; name = name.now; value = value.now }))) }
+        (format.Xattr (record { time = time; inode = inode; name = name.now; value = value.now }))) }
     ensures buffer { buf.new ≡ append_buffer buf.old (bookmark_of offset due timed last number)
-        (Xattr (record { time = time; inode = inode; name = name.now; value = value.now })) }
+        (format.Xattr (record { time = time; inode = inode; name = name.now; value = value.now })) }
 {
     let mark = bookmark_of(offset, due, timed, last, number);
-    written_numbers(mark.append_xattr(buf, time, inode, name, value))
+    let block = NewBlock::Xattr(Xattr {
+        time,
+        inode,
+        name,
+        value,
+    });
+    mark.append(buf, block).into()
 }
 
 // Appends a removed xattr block.
@@ -175,12 +200,13 @@ pub extern "C" fn hdrfs_append_removed_xattr(
     name: &[u8],
 ) -> MarkNumbers
     ensures answer { result ≡ written_numbers (append_answer (length buf.old) (bookmark_of offset due timed last number)
-        (RemovedXattr (record { time = time; inode = inode; name = name.now }))) }
+        (format.RemovedXattr (record { time = time; inode = inode; name = name.now }))) }
     ensures buffer { buf.new ≡ append_buffer buf.old (bookmark_of offset due timed last number)
-        (RemovedXattr (record { time = time; inode = inode; name = name.now })) }
+        (format.RemovedXattr (record { time = time; inode = inode; name = name.now })) }
 {
     let mark = bookmark_of(offset, due, timed, last, number);
-    written_numbers(mark.append_removed_xattr(buf, time, inode, name))
+    let block = NewBlock::RemovedXattr(RemovedXattr { time, inode, name });
+    mark.append(buf, block).into()
 }
 
 // Appends a data block.
@@ -196,12 +222,13 @@ pub extern "C" fn hdrfs_append_data(
     payload: &[u8],
 ) -> MarkNumbers
     ensures answer { result ≡ written_numbers (append_answer (length buf.old) (bookmark_of offset due timed last number)
-        (Data (record { time = time; payload = payload.now }))) }
+        (format.Data (record { time = time; payload = payload.now }))) }
     ensures buffer { buf.new ≡ append_buffer buf.old (bookmark_of offset due timed last number)
-        (Data (record { time = time; payload = payload.now })) }
+        (format.Data (record { time = time; payload = payload.now })) }
 {
     let mark = bookmark_of(offset, due, timed, last, number);
-    written_numbers(mark.append_data(buf, time, payload))
+    let block = NewBlock::Data(Data { time, payload });
+    mark.append(buf, block).into()
 }
 
 // Appends a rename block.
@@ -218,12 +245,13 @@ pub extern "C" fn hdrfs_append_rename(
     new: &[u8],
 ) -> MarkNumbers
     ensures answer { result ≡ written_numbers (append_answer (length buf.old) (bookmark_of offset due timed last number)
-        (Rename (record { time = time; old = old.now; new = new.now }))) }
+        (format.Rename (record { time = time; old = old.now; new = new.now }))) }
     ensures buffer { buf.new ≡ append_buffer buf.old (bookmark_of offset due timed last number)
-        (Rename (record { time = time; old = old.now; new = new.now })) }
+        (format.Rename (record { time = time; old = old.now; new = new.now })) }
 {
     let mark = bookmark_of(offset, due, timed, last, number);
-    written_numbers(mark.append_rename(buf, time, old, new))
+    let block = NewBlock::Rename(Rename { time, old, new });
+    mark.append(buf, block).into()
 }
 
 // Appends a link table, which has no time, `links` being the bytes of its `count` links.
@@ -239,10 +267,11 @@ pub extern "C" fn hdrfs_append_table(
     links: &[u8],
 ) -> MarkNumbers
     ensures answer { result ≡ written_numbers (append_answer (length buf.old) (bookmark_of offset due timed last number)
-        (Table (record { count = count; links = links.now }))) }
+        (format.Table (record { count = count; links = links.now }))) }
     ensures buffer { buf.new ≡ append_buffer buf.old (bookmark_of offset due timed last number)
-        (Table (record { count = count; links = links.now })) }
+        (format.Table (record { count = count; links = links.now })) }
 {
     let mark = bookmark_of(offset, due, timed, last, number);
-    written_numbers(mark.append_table(buf, count, links))
+    let block = NewBlock::Table(Table { count, links });
+    mark.append(buf, block).into()
 }

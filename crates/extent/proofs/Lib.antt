@@ -1,4 +1,4 @@
-pub mod Quotient
+pub mod Scans
 pub mod Sound
 pub mod Share
 pub mod Ranges

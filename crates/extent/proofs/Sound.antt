@@ -1,13 +1,15 @@
 -- The rules of one extent as facts: `is_sound` tests just these, and with fields that fit they are the format's rules. Assumes nothing.
 use Prim.Native.Nat.{ℕ, ◌+◌, ◌≤◌, ◌<◌}
-use mathlib.Core.Path.{◌≡◌}
-use mathlib.Core.Bool.{true, false, not, ◌||◌, and-eq-true_iff}
+use mathlib.Core.Path.{◌≡◌, sym}
+use mathlib.Core.Bool.{Bool, true, false, not, ◌||◌, and-eq-true_iff}
 use mathlib.Core.Logic.{◌⊎◌, inl, inr, ⊎_elim}
 use mathlib.Mathlib.Data.Bool.Basic.{dichotomy, or_inl, or_inr}
 use mathlib.Core.List.{List}
-use lib.Dec.{leb, eqb}
+use native.Mathlib.Omega.{arith}
+use lib.Dec.{leb, ltb, eqb}
 use borrow.Author.Tests.{leb-true, eqb-true, le-leb, eq-eqb, not-false}
 use Rattle.checks.proofs.Scan.{or_cases, any_false}
+use Rattle.checks.proofs.Tests.{told_below, told_from}
 use Rattle.format.specs.declared.Extent.{Extent}
 use Rattle.format.specs.Layout.{Fit}
 use Rattle.format.specs.Extents.{extent_widths, extent_fields, top, raw_length, kept_length, footprint, ExtentRules}
@@ -62,6 +64,15 @@ bounded_sound e b =
 pub unsound : (e : Extent) → (Bounded e → ⊥) → is_sound e ≡ false
 unsound e h = ⊎_elim (λ q. q) (λ q. absurd (h (sound_bounded e q))) (dichotomy (is_sound e))
 
+-- where the other rules hold, the last one decides
+pub last_decides : (e : Extent) (past : Bool) → past ≡ ltb top (e.start.0 + footprint e) → (e.start.0 + footprint e ≤ top → Bounded e)
+    → not past ≡ is_sound e
+last_decides e past test rules =
+    ⊎_elim
+    (λ q. let within = told_from test q in rw q (sym (bounded_sound e (rules within))))
+    (λ q. let beyond = told_below test q in rw q (sym (unsound e (λ b. omega (arith, beyond, b.physical)))))
+    (dichotomy past)
+
 -- a sound extent whose fields fit keeps the format's rules, and an extent that keeps them is sound
 pub sound_rules : (e : Extent) → is_sound e ≡ true → Fit extent_widths (extent_fields e) → ExtentRules e
 sound_rules e h fit =
@@ -92,3 +103,6 @@ rules_sound e r =
 pub each_sound : (list : List ℕ) → some_broken list ≡ false → (i : ℕ) → i < extent_count list → is_sound (extent_at list i) ≡ true
 unfolding some_broken
 each_sound list h i l = not-false _ (any_false (λ i. not (is_sound (extent_at list i))) (extent_count list) h i l)
+
+pub each_bounded : (list : List ℕ) → some_broken list ≡ false → (i : ℕ) → i < extent_count list → Bounded (extent_at list i)
+each_bounded list h i l = sound_bounded _ (each_sound list h i l)

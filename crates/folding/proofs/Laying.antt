@@ -1,6 +1,6 @@
 -- A slice written from its beginning on: a new list laid over an old one, element by element.
 use Prim.Native.Nat.{ℕ, suc, ◌+◌, ◌-◌, ◌≤◌, ◌<◌}
-use mathlib.Core.Path.{◌≡◌, refl, sym, ap, ◌∙◌}
+use mathlib.Core.Path.{◌≡◌, sym, ap, ◌∙◌}
 use mathlib.Core.List.{List, ◌∷◌, ◌++◌}
 use native.Mathlib.Numerals.{add-one}
 use native.Mathlib.Omega.{arith}
@@ -17,9 +17,6 @@ pub record Laying (new old list : List ℕ) (t : ℕ) : Type 0 where
   pub so_far : list ≡ laid new old t
 
 module _ (new old : List ℕ) where
-  pub laying_start : Laying new old old 0
-  laying_start = record { long = refl; so_far = refl }
-
   module _ (list : List ℕ) (t : ℕ) (sofar : Laying new old list t) where
     -- An element that is not written yet is the old one.
     pub ahead : (k : ℕ) → t ≤ length new → t ≤ k → get_or list k 0 ≡ get_or old k 0

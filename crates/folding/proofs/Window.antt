@@ -1,13 +1,18 @@
 -- The window in the buffer: it begins as `start`, a byte written after it moves it on by `taken`, and a chunk by the fold
 -- over its bytes.
-use Prim.Native.Nat.{ℕ, suc, ◌+◌, ◌-◌, ◌≤◌, ◌<◌}
+use Prim.Native.Nat.{ℕ, zero, suc, ◌+◌, ◌-◌, ◌*◌, ◌≤◌, ◌<◌}
 use mathlib.Core.Path.{◌≡◌, sym, ap, ap₂, ◌∙◌}
-use mathlib.Core.List.{List, [], ◌∷◌, ◌++◌, foldl, foldl-append}
+use mathlib.Core.List.{List, [], ◌∷◌, ◌++◌, foldl, foldl-append, append_assoc}
 use native.Mathlib.Numerals.{add-one}
 use native.Mathlib.Omega.{arith}
 use lib.Bits.{bit_xor}
-use lib.ListN.{length, take, drop, get_or, set, replicate, length-append, length-set, length-drop, length-take, length-replicate, replicate-append-replicate}
-use lib.Seq.{sets, sets-eq, length-sets, take_at, take-add, take-length, take-suc, drop-cons, drop-set-add, take-suc-set, get_or-take, get_or-drop, length-take-le}
+use lib.ListN.{take-append-drop, length, take, drop, get_or, set, replicate, length-append, length-set, length-drop, length-take, length-replicate, replicate-append-replicate}
+use lib.Seq.{drop-drop, take_all, take_at, take-suc, drop-cons, drop-set-add, take-suc-set, get_or-take, get_or-drop}
+use native.Mathlib.Nat.{suc-mul, zero-mul, add_comm}
+use borrow.Rule.Slice.PartMut.{put_mid}
+use Rattle.std.specs.List.{fold}
+use Rattle.std.specs.Simd.{first_chunks}
+use Rattle.std.proofs.lemmas.Slice.{take-put_mid}
 use Rattle.folding.specs.inner.Folding.{taken, start, spread, folded}
 use Rattle.folding.specs.inner.Buffer.{Holds}
 
@@ -67,69 +72,68 @@ holds_more window chunk buffer j sofar more few =
           ∙ sym (rw (add-one, take-suc chunk j 0, foldl-append));
     }
 
--- A chunk: the window, at the beginning of the buffer at first, ends up as many places further.
-holds_chunk : (bytes old buffer : List ℕ) (i n : ℕ) → Holds old 0 (foldl taken start (take i bytes)) → i + n ≤ length bytes
-    → Holds buffer (length (take n (drop i bytes))) (foldl taken (take 300 old) (take n (drop i bytes)))
-    → Holds buffer n (foldl taken start (take (i + n) bytes))
-holds_chunk bytes old buffer i n before within after =
-    let whole : length (take n (drop i bytes)) ≡ n = length-take-le n (drop i bytes) (simp length-drop (omega arith)) in
+-- A full chunk, after which the window is moved.
+pub holds_full : (window chunk old buffer new : List ℕ) → length chunk ≡ 2048 → Holds old 0 window
+    → Holds buffer (length chunk) (foldl taken (take 300 old) chunk) → Holds new 0 (take 300 (drop 2048 buffer))
+    → Holds new 0 (foldl taken window chunk)
+holds_full window chunk old buffer new full before after moved =
     record {
-      long = after.long;
+      long = moved.long;
       there =
-          ap (λ (k : ℕ). take 300 (drop k buffer)) (sym whole) ∙ after.there
-          ∙ ap (λ (w : List ℕ). foldl taken w (take n (drop i bytes))) before.there
-          ∙ sym (rw (take-add, foldl-append));
+          moved.there ∙ ap (λ (n : ℕ). take 300 (drop n buffer)) (sym full) ∙ after.there
+          ∙ ap (λ (w : List ℕ). foldl taken w chunk) before.there;
     }
 
--- A full chunk, after which the window is moved.
-pub holds_full : (bytes old buffer new : List ℕ) (i : ℕ) → Holds old 0 (foldl taken start (take i bytes)) → i + 2048 ≤ length bytes
-    → Holds buffer (length (take (i + 2048 - i) (drop i bytes))) (foldl taken (take 300 old) (take (i + 2048 - i) (drop i bytes)))
-    → Holds new 0 (take 300 (drop 2048 buffer))
-    → Holds new 0 (foldl taken start (take (i + 2048) bytes))
-holds_full bytes old buffer new i before within after moved =
-    let n : i + 2048 - i ≡ 2048 = omega arith in
-    record { long = moved.long; there = moved.there ∙ (holds_chunk bytes old buffer i 2048 before within (rw n at after)).there }
+-- The window is moved to the beginning.
+pub moved : (buffer front back new : List ℕ) → length front ≡ 2048 → length back ≡ 300 → back ≡ drop 2048 buffer → new ≡ back
+    → Holds ((new ++ drop 300 front) ++ back) 0 (take 300 (drop 2048 buffer))
+moved buffer front back new fl bl e same =
+    let whole : length new ≡ 300 = ap length same ∙ bl in
+    record {
+      long = simp (length-append, length-drop) (omega arith);
+      there =
+          rw append_assoc
+          (take_at new (drop 300 front ++ back) 300 whole ∙ same ∙ sym (take_all 300 back (omega arith)) ∙ ap (take 300) e);
+    }
 
--- The last chunk, after which the window is that of all bytes and stands as many places further as the chunk is long.
-module _ (bytes old buffer : List ℕ) (i : ℕ) (before : Holds old 0 (foldl taken start (take i bytes))) (within : i ≤ length bytes)
-    (after : Holds buffer (length (take (length bytes - i) (drop i bytes)))
-    (foldl taken (take 300 old) (take (length bytes - i) (drop i bytes)))) where
-  shown_last : take 300 (drop (length bytes - i) buffer) ≡ foldl taken start bytes
-  shown_last =
-      let all : i + (length bytes - i) ≡ length bytes = omega arith in
-      let end : i + (length bytes - i) ≤ length bytes = omega arith in
-      (holds_chunk bytes old buffer i (length bytes - i) before end after).there
-      ∙ ap (λ (n : ℕ). foldl taken start (take n bytes)) all ∙ ap (foldl taken start) (take-length bytes)
+-- The chunks one after the other, and then what is left.
+all_bytes : (n k : ℕ) (bytes window : List ℕ)
+    → foldl taken (fold (foldl taken) window (first_chunks n k bytes)) (drop (k * n) bytes) ≡ foldl taken window bytes
+all_bytes n zero bytes window = rw zero-mul
+all_bytes n (suc k) bytes window =
+    rw (suc-mul, add_comm (k * n) n, ← drop-drop (k * n) n bytes)
+    (all_bytes n k (drop n bytes) (foldl taken window (take n bytes))
+    ∙ sym (foldl-append taken window (take n bytes) (drop n bytes)) ∙ ap (foldl taken window) (take-append-drop n bytes))
 
-  pub left_over : (rest : List ℕ) (n : ℕ) → n ≡ length bytes - i → rest ≡ spread (take (n + 300 - n) (drop n buffer)) → rest ≡ folded bytes
-  unfolding folded
-  left_over rest n e h =
-      let whole : n + 300 - n ≡ 300 = omega arith in
-      (rw (whole, e) at h) ∙ ap spread shown_last
+-- What is left after the full chunks is taken too, and the bytes left over are made of the window.
+pub left_over : (bytes last old buffer rest : List ℕ) (chunks : List (List ℕ)) (k i : ℕ) → chunks ≡ first_chunks 2048 k bytes
+    → last ≡ drop (k * 2048) bytes → length chunks ≤ i → Holds old 0 (fold (foldl taken) start (take i chunks))
+    → Holds buffer (length last) (foldl taken (take 300 old) last)
+    → rest ≡ spread (take (length last + 300 - length last) (drop (length last) buffer)) → rest ≡ folded bytes
+unfolding folded
+left_over bytes last old buffer rest chunks k i cut left all before after e =
+    let whole : length last + 300 - length last ≡ 300 = omega arith in
+    e
+    ∙ ap spread
+    (ap (λ (n : ℕ). take n (drop (length last) buffer)) whole ∙ after.there
+    ∙ ap₂ (foldl taken) (before.there ∙ ap (fold (foldl taken) start) (take_all i chunks all ∙ cut)) left
+    ∙ all_bytes 2048 k bytes start)
 
 -- Some of many zeros.
 some_zeros : (n m : ℕ) → take {A = ℕ} n (replicate (n + m) 0) ≡ replicate n 0
 some_zeros n m =
     ap (take n) (sym (replicate-append-replicate n m 0)) ∙ take_at (replicate n 0) (replicate m 0) n (length-replicate n 0)
 
--- Zeros, and what is written after them.
-written : (buffer new : List ℕ) (n m : ℕ) → buffer ≡ replicate (n + m) 0 → length new ≤ m
-    → take (n + length new) (sets buffer n new) ≡ replicate n 0 ++ new
-written buffer new n m e h =
-    let long : length buffer ≡ n + m = ap length e ∙ length-replicate {A = ℕ} (n + m) 0 in
-    let zeros : take n buffer ≡ replicate n 0 = ap (take n) e ∙ some_zeros n m in
-    let front : length (take n buffer ++ new) ≡ n + length new = simp (length-append, length-take) (omega arith) in
-    ap (take (n + length new)) (sets-eq new buffer n (omega arith))
-    ∙ take_at (take n buffer ++ new) (drop (n + length new) buffer) (n + length new) front
-    ∙ ap (λ (l : List ℕ). l ++ new) zeros
-
 -- The window before the first byte.
-pub begun : (buffer : List ℕ) → buffer ≡ replicate 2348 0
-    → Holds (set (set (set (set buffer 296 0x62) 297 0xF5) 298 0x26) 299 0x92) 0 start
+pub begun : (buffer new : List ℕ) → buffer ≡ replicate 2348 0 → new ≡ 0x62 ∷ 0xF5 ∷ 0x26 ∷ 0x92 ∷ []
+    → Holds (put_mid 296 4 buffer new) 0 start
 unfolding start
-begun buffer e =
-    let four : List ℕ = 0x62 ∷ 0xF5 ∷ 0x26 ∷ 0x92 ∷ [] in
+begun buffer new e written =
+    let long : length buffer ≡ 2348 = ap length e ∙ length-replicate {A = ℕ} 2348 0 in
+    let few : length new ≡ 4 = ap length written in
     record {
-      long = length-sets buffer 296 four ∙ ap length e ∙ length-replicate {A = ℕ} 2348 0;
-      there = written buffer four 296 2052 e (omega arith);
+      long = simp (length-append, length-take, length-drop) (omega arith);
+      there =
+          take-put_mid 296 4 buffer new 300 (omega arith) (omega arith)
+          ∙ ap₂ (λ (xs ys : List ℕ). xs ++ ys) (ap (take 296) e ∙ some_zeros 296 2052) written;
     }

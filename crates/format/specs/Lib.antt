@@ -3,3 +3,5 @@ pub mod Extents
 pub mod Blocks
 pub mod Headers
 pub mod Readings
+pub mod Asked
+pub mod Kinds

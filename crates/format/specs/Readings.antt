@@ -1,6 +1,5 @@
 -- A reading of a volume: a header and a list of blocks. They keep the rules, and one image after the other they make up its bytes.
-use Rattle.std.specs.Prelude.{ℕ, zero, suc, ◌≤◌, ◌≡◌, List, [], ◌∷◌, ◌++◌}
-use Rattle.std.proofs.Math.Option.{Option, none, some}
+use Rattle.std.specs.Prelude.{ℕ, zero, suc, ◌≤◌, ◌≡◌, Option, Some, None, List, [], ◌∷◌, ◌++◌}
 use Rattle.format.specs.Layout.{All}
 use Rattle.format.specs.Blocks.{link_table, Block, Inode, Link, Unlink, Xattr, RemovedXattr, Data, Rename, Table, kind_of, image, BlockRules}
 use Rattle.format.specs.Headers.{Header, header_image, HeaderRules}
@@ -24,25 +23,25 @@ TableRule (suc n) (block ∷ blocks) = IsTable block × NoTable blocks
 
 -- the time of a block; a table has none
 abbrev pub time_of : Block → Option ℕ
-time_of (Inode b) = some b.time
-time_of (Link b) = some b.time
-time_of (Unlink b) = some b.time
-time_of (Xattr b) = some b.time
-time_of (RemovedXattr b) = some b.time
-time_of (Data b) = some b.time
-time_of (Rename b) = some b.time
-time_of (Table b) = none
+time_of (Inode b) = Some b.time
+time_of (Link b) = Some b.time
+time_of (Unlink b) = Some b.time
+time_of (Xattr b) = Some b.time
+time_of (RemovedXattr b) = Some b.time
+time_of (Data b) = Some b.time
+time_of (Rename b) = Some b.time
+time_of (Table b) = None
 
 -- the time rule: where there is a last time, the next one is not lower
 abbrev pub TimeFollows : (last time : Option ℕ) → Type 0
-TimeFollows none time = Unit {0}
-TimeFollows (some last) none = Unit {0}
-TimeFollows (some last) (some time) = last ≤ time
+TimeFollows None time = Unit {0}
+TimeFollows (Some last) None = Unit {0}
+TimeFollows (Some last) (Some time) = last ≤ time
 
 -- the last time once a block has been passed; a table leaves it as it was
 abbrev pub last_after : (last time : Option ℕ) → Option ℕ
-last_after last none = last
-last_after last (some time) = some time
+last_after last None = last
+last_after last (Some time) = Some time
 
 -- every time in the volume keeps the time rule
 abbrev pub TimesFollow : (last : Option ℕ) → List Block → Type 0
@@ -54,7 +53,7 @@ pub record Keeps (reading : Reading) : Type 0 where
   pub header : HeaderRules reading.header
   pub each : All BlockRules reading.blocks
   pub table : TableRule reading.header.sequence reading.blocks
-  pub times : TimesFollow none reading.blocks
+  pub times : TimesFollow None reading.blocks
 
 unfoldable pub images : List Block → List ℕ
 images [] = []

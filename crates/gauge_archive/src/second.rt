@@ -1,6 +1,7 @@
 // Volume 1: more readings, and a new name for the gauge's file; a symbolic link keeps the old name.
 use crate::output::hand_out;
-use crate::steps::{FOLDER, OLD_NAME, SYMBOLIC_LINK, begin, digest, inode, onward};
+use crate::steps::{OLD_NAME, append, begin, digest};
+use printing::blocks::{SYMBOLIC_LINK, data, inode, link, rename, table};
 use std::io;
 use std::rt::Runtime;
 use volume::Bookmark;
@@ -12,24 +13,20 @@ fn readings(rt: &impl Print, buf: &mut [u8; LEN], mark: Bookmark) -> io::Result<
     let links = b"\x07\0\0\0\0\0\0\0\x01\0\0\0\0\0\0\0\x09\0gauge.csv";
     let lines =
         b"2026-01-01 00:45;1,34\n2026-01-01 01:00;1,38\n2026-01-01 01:15;1,41\n2026-01-01 01:30;1,43\n2026-01-01 01:45;9,99\n";
-    let next = onward(rt, mark, mark.append_table(buf, 1, links))?;
-    onward(rt, next, next.append_data(buf, 6, lines))
+    let next = append(rt, mark, buf, table(1, links))?;
+    append(rt, next, buf, data(6, lines))
 }
 
 // The size that the rules give a symbolic link is 70 and the length of its target.
 fn names(rt: &impl Print, buf: &mut [u8; LEN], first: Bookmark) -> io::Result<()> {
-    let mut mark = first;
-    mark = onward(
+    let mut mark = append(rt, first, buf, rename(7, b"gauge.csv", b"river.csv"))?;
+    mark = append(
         rt,
         mark,
-        mark.append_rename(buf, 7, b"gauge.csv", b"river.csv"),
+        buf,
+        inode(OLD_NAME, 8, SYMBOLIC_LINK, 79, b"river.csv"),
     )?;
-    mark = inode(rt, mark, buf, OLD_NAME, 8, SYMBOLIC_LINK, 79, b"river.csv")?;
-    onward(
-        rt,
-        mark,
-        mark.append_link(buf, 9, OLD_NAME, FOLDER, b"gauge.csv"),
-    )?;
+    append(rt, mark, buf, link(9, OLD_NAME, b"gauge.csv"))?;
     Ok(())
 }
 

@@ -1,49 +1,59 @@
-// What the three volumes share: going from one append to the next, headers, inodes and extents.
+// What the three volumes share: headers, going from one append to the next, digests and extents.
 ghost use Rattle.std.specs.Prelude.{◌≤◌};
 
-use printing::{print_pair, print_refusal, print_word};
+use format::new_block::NewBlock;
+use format::{Extent, Logical, Physical};
+use printing::bookmarks::NOWHERE;
+use refusal::Refusal;
 use std::io;
-use volume::{Bookmark, LastTime, WriteAnswer};
+use volume::Bookmark;
 
-pub const REGULAR: u16 = 33188;
-
-pub const SYMBOLIC_LINK: u16 = 41471;
-
-// The inode numbers of the gauge's file, of the symbolic link to it, and of the folder that they stand in.
+// The inode numbers of the gauge's file and of the symbolic link to it.
 pub const GAUGE: u64 = 7;
 
 pub const OLD_NAME: u64 = 8;
-
-pub const FOLDER: u64 = 1;
 
 // The multiplicities of an extent: blocks in a row, and one block repeated.
 pub const ROW: u8 = 67;
 
 pub const REPEATED: u8 = 82;
 
-// Internal: the bookmark for the next append. No call here is meant to be refused; one that is says so, and leaves a gap that
-// the volume check finds.
-pub fn onward(rt: &impl Print, mark: Bookmark, answer: WriteAnswer) -> io::Result<Bookmark> {
+// The bookmark for the next append. No call here is meant to be refused; one that is says so, and leaves a gap that
+// the volume check finds. Not that of `printing`, which has a line for each append that is accepted too.
+fn onward(
+    rt: &impl Print,
+    mark: Bookmark,
+    answer: Result<Bookmark, Refusal>,
+) -> io::Result<Bookmark> {
     match answer {
-        WriteAnswer::Next(next) => Ok(next),
-        WriteAnswer::Refused(refusal) => {
-            print_refusal(rt, refusal)?;
-            print_pair(rt, b" in writing at ", mark.offset as u64)?;
-            print_word(rt, b"\n")?;
+        Ok(next) => Ok(next),
+        Err(refusal) => {
+            println!(rt; "{refusal} in writing at {}", mark.offset)?;
             Ok(mark)
         }
     }
 }
 
+// Internal: appends a block.
+pub fn append(
+    rt: &impl Print,
+    mark: Bookmark,
+    buf: &mut [u8],
+    block: NewBlock<'_>,
+) -> io::Result<Bookmark> {
+    onward(rt, mark, mark.append(buf, block))
+}
+
 // Internal: the digest of a volume, which the header of the next one has. A volume here has a few hundred bytes and is not meant
 // to be refused; if it is, the program says so, and the next volume has zeros, which name no volume.
 pub fn digest(rt: &impl Print, volume: &[u8]) -> io::Result<[u8; 32]> {
-    let finished = sha256::sha256(volume);
-    if finished.refusal != 0 {
-        print_pair(rt, b"refused ", finished.refusal)?;
-        print_word(rt, b" in working out a digest\n")?;
+    match sha256::sha256(volume) {
+        Ok(digest) => Ok(digest),
+        Err(fault) => {
+            println!(rt; "refused {} in working out a digest", u64::from(fault))?;
+            Ok([0u8; 32])
+        }
     }
-    Ok(finished.digest)
 }
 
 // Internal: begins a volume. `previous` is the digest of the volume before. Volume 0 has none before it, and must have zeros.
@@ -53,53 +63,33 @@ pub fn begin(
     sequence: u64,
     previous: &[u8],
 ) -> io::Result<Bookmark> {
-    let nowhere = Bookmark {
-        offset: 0,
-        due: false,
-        last: LastTime::Never,
-        number: 0,
-    };
     let answer = volume::heading::write_header(buf, b"gauge at a river", sequence, previous);
-    onward(rt, nowhere, answer)
+    onward(rt, NOWHERE, answer)
 }
 
-// Internal: appends an inode, with the same owners and times for each.
-pub fn inode(
-    rt: &impl Print,
-    mark: Bookmark,
-    buf: &mut [u8],
-    number: u64,
-    time: u64,
-    mode: u16,
-    size: u64,
-    rest: &[u8],
-) -> io::Result<Bookmark> {
-    let answer = mark.append_inode(buf, number, time, mode, 1, 2, 3, 4, 5, 6, size, rest);
-    onward(rt, mark, answer)
-}
+// Internal: the extent of the first readings, a block of volume 0 that is kept whole. The others are written as what differs.
+pub const READINGS: Extent = Extent {
+    volume: 0,
+    start: Physical(97),
+    size: 95,
+    multiplicity: ROW,
+    count: 1,
+    pre: 0,
+    post: 0,
+    logical: Logical(0),
+};
 
 // Internal: puts an extent into a list at `at`, its eight fields in the order of the layout. The bound, where the last of four
 // extents begins, is there so that the sums fit.
-pub fn put_extent(
-    list: &mut [u8],
-    at: usize,
-    volume: u64,
-    start: u64,
-    size: u64,
-    multiplicity: u8,
-    count: u64,
-    pre: u64,
-    post: u64,
-    logical: u64,
-)
+pub fn put_extent(list: &mut [u8], at: usize, e: Extent)
     requires { at ≤ 171 }
 {
-    number::write_u64(list, at, volume);
-    number::write_u64(list, at + 8, start);
-    number::write_u64(list, at + 16, size);
-    number::write_u8(list, at + 24, multiplicity);
-    number::write_u64(list, at + 25, count);
-    number::write_u64(list, at + 33, pre);
-    number::write_u64(list, at + 41, post);
-    number::write_u64(list, at + 49, logical);
+    number::write_u64(list, at, e.volume);
+    number::write_u64(list, at + 8, e.start.0);
+    number::write_u64(list, at + 16, e.size);
+    number::write_u8(list, at + 24, e.multiplicity);
+    number::write_u64(list, at + 25, e.count);
+    number::write_u64(list, at + 33, e.pre);
+    number::write_u64(list, at + 41, e.post);
+    number::write_u64(list, at + 49, e.logical.0);
 }

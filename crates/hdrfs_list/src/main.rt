@@ -6,7 +6,6 @@ ghost use Rattle.io.specs.Counts.{IsPrefixLen};
 ghost use Rattle.listing.specs.Listing.{list_limit};
 ghost use Rattle.listing.specs.inner.Text.{listing};
 
-use listing::ListAnswer;
 use std::io::{self, Write};
 
 // Writes the listing into a room that is long enough for every text, and answers how long the text is.
@@ -15,11 +14,8 @@ fn write_listing(volume: &[u8], room: &mut [u8]) -> usize
     ensures prefix_len { IsPrefixLen result room.new }
     ensures room_after { take result room.new ≡ listing volume.now }
 {
-    match listing::list(volume, room) {
-        ListAnswer::Written(len) => len,
-        // Never met: no text has more than 65,536 bytes.
-        ListAnswer::Refused(_) => 0,
-    }
+    // The 0 never comes: no text has more than 65,536 bytes.
+    listing::list(volume, room).unwrap_or(0)
 }
 
 fn main(rt: HostRuntime) -> io::Result<()> {

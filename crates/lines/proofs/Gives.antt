@@ -8,10 +8,13 @@ use native.Mathlib.Omega.{arith}
 use lib.Dec.{leb, ltb}
 use lib.ListN.{length, get_or}
 use borrow.Author.Tests.{ne_eqb, lt-leb, le-ltb, lt-ltb}
+use Rattle.refusal.specs.Faults.{number_of}
+use Rattle.refusal.specs.inner.Numbered.{fault_of, fault_of-number}
+use Rattle.refusal.specs.declared.Fault.{Fault}
+use Rattle.refusal.specs.declared.Fault.TheVariants.{TooDeep}
 use Rattle.folders.specs.Lines.{Line, levels, each, entry_lines}
 use Rattle.folders.specs.inner.Folders.{siblings, NextIn}
-use Rattle.lines.specs.inner.Giving.{State, sound, stopped, with_line, give, give_all, given_in}
-use Rattle.lines.specs.declared.Given.{Given}
+use Rattle.lines.specs.inner.Giving.{State, Given, sound, stopped, with_line, give, give_all, given_in}
 use Rattle.folders.proofs.Places.{siblings_step, past_last, line_first}
 
 -- a state without a fault is known by its list and its lines
@@ -132,3 +135,10 @@ module _ (room : ℕ) where
 -- what is answered of a state that is known
 pub told : (state other : State) → state ≡ other → (given_in other ≡ given_in state) × (other.list ≡ state.list)
 told state other e = (ap given_in (sym e), ap (λ s. s.list) (sym e))
+
+-- no fault has the number 0, as that would be the last one's
+pub some_fault : (fault : Fault) → number_of fault ≡ 0 → ⊥
+some_fault fault e =
+    let last : fault ≡ TooDeep = sym (fault_of-number fault) ∙ ap fault_of e in
+    let number : number_of fault ≡ 24 = ap number_of last in
+    omega arith

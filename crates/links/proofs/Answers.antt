@@ -13,15 +13,15 @@ use Rattle.order.proofs.Cases.{cases}
 use Rattle.links.specs.Links.{parent_at, name_length_at, link_end, link_start, link_at, found_at, link_from, link_answer}
 use Rattle.links.specs.Walked.{shown_link}
 use Rattle.links.specs.declared.Link.{Link}
-use Rattle.links.specs.declared.LinkAnswer.TheVariants.{Found, Missing}
+use Rattle.std.specs.Prelude.{Some, None}
 
 module _ (links : List ℕ) (at : ℕ) where
-  pub cut_short : length links < link_end links at → Missing ≡ link_from links at
+  pub cut_short : length links < link_end links at → None ≡ link_from links at
   unfolding link_from
   cut_short h = rw (lt-leb (link_end links at) (length links) h)
 
   pub found : (len : ℕ) → len ≡ 18 + name_length_at links at → at + len ≤ length links
-      → Found (record { child = number_at links at 8; parent = parent_at links at; name = at + 18; len = len - 18 }) ≡ link_from links at
+      → Some (record { child = number_at links (at + 0) 8; parent = parent_at links at; name = at + 18; len = len - 18 }) ≡ link_from links at
   unfolding link_from
   found len l h =
       let n : len - 18 ≡ name_length_at links at = omega arith in
@@ -29,7 +29,7 @@ module _ (links : List ℕ) (at : ℕ) where
       rw (n, add-zero at, le-leb (link_end links at) (length links) end)
 
 module _ (links : List ℕ) (count index : ℕ) where
-  pub not_so_many : count ≤ index → Missing ≡ link_answer links count index
+  pub not_so_many : count ≤ index → None ≡ link_answer links count index
   unfolding link_answer
   not_so_many h = rw (le-ltb index count h)
 
@@ -44,23 +44,23 @@ module _ (links : List ℕ) (count index : ℕ) where
       (λ within. let e : at ≡ link_start links index = omega arith in rw e))
 
 -- the link that an answer shows is the one at that place
-pub answer_shows_the_link_there : (links : List ℕ) (at : ℕ) (link : Link) → link_from links at ≡ Found link
+pub answer_shows_the_link_there : (links : List ℕ) (at : ℕ) (link : Link) → link_from links at ≡ Some link
     → shown_link links link ≡ link_at links at
 unfolding link_from
 answer_shows_the_link_there links at link = go (leb (link_end links at) (length links))
   where
-    go : (there : Bool) → cond there (Found (found_at links at)) Missing ≡ Found link → shown_link links link ≡ link_at links at
+    go : (there : Bool) → cond there (Some (found_at links at)) None ≡ Some link → shown_link links link ≡ link_at links at
     go true e = let s : found_at links at ≡ link = cc in rw (← s)
     go false e = let z : ◌≡◌ {A = ℕ} 0 1 = cc in absurd (omega arith)
 
 -- it ends within the bytes
-pub answer_ends_within : (links : List ℕ) (at : ℕ) (link : Link) → link_from links at ≡ Found link
+pub answer_ends_within : (links : List ℕ) (at : ℕ) (link : Link) → link_from links at ≡ Some link
     → link.name + link.len ≤ length links
 unfolding link_from
 answer_ends_within links at link = go (leb (link_end links at) (length links)) refl
   where
     go : (there : Bool) → leb (link_end links at) (length links) ≡ there
-        → cond there (Found (found_at links at)) Missing ≡ Found link → link.name + link.len ≤ length links
+        → cond there (Some (found_at links at)) None ≡ Some link → link.name + link.len ≤ length links
     go true t e =
         let s : found_at links at ≡ link = cc in
         let h = leb-true (link_end links at) (length links) t in
@@ -68,12 +68,12 @@ answer_ends_within links at link = go (leb (link_end links at) (length links)) r
     go false t e = let z : ◌≡◌ {A = ℕ} 0 1 = cc in absurd (omega arith)
 
 -- it is the link with that number
-pub answer_shows_the_link : (links : List ℕ) (count index : ℕ) (link : Link) → link_answer links count index ≡ Found link
+pub answer_shows_the_link : (links : List ℕ) (count index : ℕ) (link : Link) → link_answer links count index ≡ Some link
     → shown_link links link ≡ link_at links (link_start links index)
 unfolding link_answer
 answer_shows_the_link links count index link = go (ltb index count)
   where
-    go : (there : Bool) → cond there (link_from links (link_start links index)) Missing ≡ Found link
+    go : (there : Bool) → cond there (link_from links (link_start links index)) None ≡ Some link
         → shown_link links link ≡ link_at links (link_start links index)
     go true e = answer_shows_the_link_there links (link_start links index) link e
     go false e = let z : ◌≡◌ {A = ℕ} 0 1 = cc in absurd (omega arith)

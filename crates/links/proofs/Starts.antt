@@ -37,9 +37,9 @@ module _ (links : List ℕ) where
   start_bound bytes zero = omega arith
   start_bound bytes (suc i) = omega (arith, start_bound bytes i, number_at-lt links (link_start links i + 16) 2 bytes)
 
-  -- the bytes from a place on show the length of the link there
-  pub length_in_rest : (at : ℕ) → number_at (take (length links - at) (drop at links)) 16 2 ≡ name_length_at links at
-  length_in_rest at = rw (take_all (length links - at) (drop at links) (simp length-drop (omega arith)), drop-drop)
+  -- the bytes from a place on show the numbers that stand there
+  pub number_in_rest : (at k width : ℕ) → number_at (take (length links - at) (drop at links)) k width ≡ number_at links (at + k) width
+  number_in_rest at k width = rw (take_all (length links - at) (drop at links) (simp length-drop (omega arith)), drop-drop)
 
   -- a link that begins where the bytes end, or before, and is longer than what is left ends past them
   pub start_past : (i at len : ℕ) → at ≡ min (link_start links i) (length links) → len ≡ 18 + name_length_at links at

@@ -11,13 +11,13 @@ use Rattle.order.proofs.Cases.{cases}
 use Rattle.links.specs.Links.{name_length_at, link_end, link_start, link_at, links_from, found_at, link_from, link_answer}
 use Rattle.links.specs.inner.Sorting.{Fits}
 use Rattle.links.specs.Walked.{link_shown, Walked, none_left, handed}
-use Rattle.links.specs.declared.LinkAnswer.TheVariants.{Found}
+use Rattle.std.specs.Prelude.{Some}
 use Rattle.links.proofs.Starts.{start_zero, start_suc, link_within}
 use Rattle.links.proofs.Answers.{cut_short, not_so_many}
 
 module _ (links : List ℕ) where
   -- the link at a place, where it ends within the bytes
-  found_there : (at : ℕ) → Fits links at → link_from links at ≡ Found (found_at links at)
+  found_there : (at : ℕ) → Fits links at → link_from links at ≡ Some (found_at links at)
   unfolding link_from
   found_there at fits = rw (le-leb (link_end links at) (length links) fits)
 

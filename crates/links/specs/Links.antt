@@ -1,12 +1,10 @@
 -- The links of a table, one after the other. All goes by the bytes of the links alone, from the first link on.
-use Rattle.std.specs.Prelude.{ℕ, zero, suc, ◌+◌, cond, List, [], ◌∷◌, map, ltb, leb, length}
+use Rattle.std.specs.Prelude.{ℕ, zero, suc, ◌+◌, cond, List, [], ◌∷◌, map, ltb, leb, length, Option, Some, None}
 use Prim.Native.String.{String}
 use Rattle.number.specs.Number.{number_at, part}
 use Rattle.format.specs.Layout.{start_of, width_of, total}
 use Rattle.format.specs.Blocks.{TableLink, link_layout, link_widths}
 use Rattle.links.specs.declared.Link.{Link}
-use Rattle.links.specs.declared.LinkAnswer.{LinkAnswer}
-use Rattle.links.specs.declared.LinkAnswer.TheVariants.{Found, Missing}
 
 -- a field of the link at a place, by its name in the layout
 abbrev pub link_field : (name : String) (links : List ℕ) (at : ℕ) → ℕ
@@ -50,9 +48,9 @@ found_at links at =
     record { child = link_field "child" links at; parent = parent_at links at; name = at + total link_widths; len = name_length_at links at }
 
 -- the link that begins at a place, where it ends within the bytes
-unfoldable pub link_from : (links : List ℕ) (at : ℕ) → LinkAnswer
-link_from links at = cond (leb (link_end links at) (length links)) (Found (found_at links at)) Missing
+unfoldable pub link_from : (links : List ℕ) (at : ℕ) → Option Link
+link_from links at = cond (leb (link_end links at) (length links)) (Some (found_at links at)) None
 
 -- the link with the given number, where it is one of `count` links
-unfoldable pub link_answer : (links : List ℕ) (count index : ℕ) → LinkAnswer
-link_answer links count index = cond (ltb index count) (link_from links (link_start links index)) Missing
+unfoldable pub link_answer : (links : List ℕ) (count index : ℕ) → Option Link
+link_answer links count index = cond (ltb index count) (link_from links (link_start links index)) None

@@ -1,5 +1,6 @@
 -- Where a block is handed out, the lines from there on are its line, in the format's own words, and the lines from the next bookmark
 -- on: where the block begins, the ID of its kind, and how long its image is. Assumes nothing.
+use Rattle.std.specs.Prelude.{Some, Ok}
 use Prim.Native.Nat.{ℕ, ◌+◌, ◌-◌}
 use mathlib.Core.Path.{◌≡◌, ap, ◌∙◌}
 use mathlib.Core.List.{List, ◌++◌}
@@ -13,7 +14,6 @@ use Rattle.block.proofs.BlockImage.{block_complete}
 use Rattle.volume.specs.Reading.{read_answer}
 use Rattle.volume.specs.declared.Bookmark.{Bookmark}
 use Rattle.volume.specs.declared.Found.{Found}
-use Rattle.volume.specs.declared.ReadAnswer.TheVariants as ReadAnswer
 use Rattle.volume.specs.inner.Walk.{on_read}
 use Rattle.volume.proofs.OneCall.{HandedOut, read_sound}
 use Rattle.volume.proofs.Walk.{walk_step}
@@ -21,7 +21,7 @@ use Rattle.listing.specs.Listing.{block_line}
 use Rattle.listing.specs.inner.Text.{listing_way, lines_from}
 
 pub block_has_its_line : (volume : List ℕ) (mark : Bookmark) (found : Found) → Bytes volume
-    → read_answer volume mark ≡ ReadAnswer.Found found
+    → read_answer volume mark ≡ Ok (Some found)
     → lines_from volume mark
     ≡ block_line mark.offset (id_of (kind_of (shown volume found.block))) (length (image (shown volume found.block)))
     ++ lines_from volume found.next

@@ -1,5 +1,6 @@
 -- The text has at most 65,536 bytes: the line of a block is never longer than the block, and the heading and the last line
 -- together are shorter than a header. Assumes nothing.
+use Rattle.std.specs.Prelude.{Some, Ok}
 use Prim.Native.Nat.{ℕ, suc, ◌+◌, ◌-◌, ◌≤◌, ◌<◌}
 use mathlib.Core.Path.{◌≡◌, refl, sym}
 use mathlib.Core.Bool.{Bool, true, false, ◌&&◌, and-eq-true_iff}
@@ -10,8 +11,7 @@ use lib.Dec.{leb, ltb, eqb, lit≤, lit<}
 use lib.ListN.{length, length-append}
 use borrow.Author.Tests.{ltb-true, ltb-false, leb-true, eqb-true, le-leb}
 use Rattle.checks.specs.Checks.{Check, check, first_fault}
-use Rattle.format.specs.Blocks.{Kind, inode_block, link_block, unlink_block, xattr_block, removed_xattr_block, data_block, rename_block, link_table}
-use Rattle.format.specs.Blocks.{FileType, regular, symbolic_link, other}
+use Rattle.format.specs.Blocks.{Kind, inode_block, link_block, unlink_block, xattr_block, removed_xattr_block, data_block, rename_block, link_table, FileType, regular, symbolic_link, other}
 use Rattle.refusal.proofs.Laws.{with_number}
 use Rattle.texts.specs.Texts.{texts_at}
 use Rattle.block.specs.Fields.{id_at, kind_at, fixed_length, type_at, size_at, rest_at}
@@ -21,7 +21,7 @@ use Rattle.volume.specs.Reading.{read_order, read_fault, next_mark, read_answer}
 use Rattle.volume.specs.inner.Walk.{on_read}
 use Rattle.volume.specs.declared.Bookmark.{Bookmark}
 use Rattle.volume.specs.declared.Found.{Found}
-use Rattle.volume.specs.declared.ReadAnswer.{ReadAnswer}
+use Rattle.volume.specs.Answers.{ReadAnswer}
 use Rattle.volume.proofs.Passed.{read_passed}
 use Rattle.volume.proofs.Whole.{header-length}
 use Rattle.volume.proofs.Steps.{found_at, Answers, ends, finds, refuses, answers, found_read, sound_further}
@@ -29,7 +29,6 @@ use Rattle.volume.proofs.Walk.{block_after_block, walk_step}
 use Rattle.listing.specs.Decimal.{decimal}
 use Rattle.listing.specs.Listing.{block_line, end_line, refused_line, list_limit, list_answer}
 use Rattle.listing.specs.inner.Text.{found_line, listing_way, lines_from, after_heading, listing}
-use Rattle.listing.specs.declared.ListAnswer.TheVariants.{Written}
 use Rattle.listing.proofs.Digits.{decimal_short}
 
 -- the numbers of a table of checks are at most a given one
@@ -118,7 +117,7 @@ module _ (volume : List ℕ) (small : length volume ≤ list_limit) where
   Short mark = mark.offset ≤ length volume → mark.number ≤ mark.offset → length (lines_from volume mark) ≤ room_at volume mark
 
   line_short : (mark : Bookmark) → mark.offset ≤ length volume → mark.number ≤ mark.offset
-      → ((found : Found) → read_answer volume mark ≡ ReadAnswer.Found found → Short found.next)
+      → ((found : Found) → read_answer volume mark ≡ Ok (Some found) → Short found.next)
       → {a : ReadAnswer} → Answers volume mark a → length (on_read (listing_way volume) mark (lines_from volume) a) ≤ room_at volume mark
   unfolding on_read
   line_short mark h b later (ends p) =
@@ -164,7 +163,7 @@ listing_short volume = go (ltb list_limit (length volume)) refl
     go false e = rw e (omega (arith, after_heading_short volume (ltb-false list_limit (length volume) e)))
 
 -- so a room of that length is never too small
-pub listing_fits : (room : ℕ) (volume : List ℕ) → list_limit ≤ room → list_answer room (listing volume) ≡ Written (length (listing volume))
+pub listing_fits : (room : ℕ) (volume : List ℕ) → list_limit ≤ room → list_answer room (listing volume) ≡ Ok (length (listing volume))
 unfolding list_answer
 listing_fits room volume h =
     let fits : length (listing volume) ≤ room = omega (arith, listing_short volume) in

@@ -1,4 +1,5 @@
 -- The text ends as the whole-volume check does: its last line has the check's number of blocks, or its refusal. Assumes nothing.
+use Rattle.std.specs.Prelude.{Ok, Err}
 use Prim.Native.Nat.{ℕ, ◌≤◌}
 use mathlib.Core.Path.{◌≡◌, refl, sym, ap, ◌∙◌}
 use mathlib.Core.List.{List, [], ◌++◌, append_assoc}
@@ -9,7 +10,7 @@ use Rattle.volume.specs.Checking.{CheckedFrom, accepted_at_the_end, refused_at_a
 use Rattle.volume.specs.inner.Walk.{on_read}
 use Rattle.volume.specs.inner.Check.{check_answer}
 use Rattle.volume.specs.declared.Bookmark.{Bookmark}
-use Rattle.volume.specs.declared.Verdict.{Verdict}
+use Rattle.volume.specs.Answers.{Verdict}
 use Rattle.volume.proofs.Walk.{walk_step}
 use Rattle.volume.proofs.Checked.{checked}
 use Rattle.listing.specs.Listing.{heading_line, end_line, refused_line, list_limit}
@@ -17,8 +18,8 @@ use Rattle.listing.specs.inner.Text.{found_line, listing_way, lines_from, after_
 
 -- the last line of a verdict
 abbrev pub last_of : Verdict → List ℕ
-last_of (Verdict.Accepted a) = end_line a.end.offset a.end.number
-last_of (Verdict.Refused r) = refused_line r.refusal.number r.offset
+last_of (Ok a) = end_line a.end.offset a.end.number
+last_of (Err r) = refused_line r.refusal.number r.offset
 
 pub record Ends (text last : List ℕ) : Type 0 where
   pub front : List ℕ

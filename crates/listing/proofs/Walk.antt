@@ -1,4 +1,5 @@
 -- The walk over the blocks: at each bookmark, whoever writes the lines from there on has written all of them. Assumes nothing.
+use Rattle.std.specs.Prelude.{Some, Ok}
 use Prim.Native.Nat.{ℕ, ◌+◌, ◌≤◌}
 use mathlib.Core.Path.{◌≡◌}
 use mathlib.Core.List.{List}
@@ -7,7 +8,7 @@ use lib.ListN.{length, length-append}
 use Rattle.volume.specs.Reading.{read_answer}
 use Rattle.volume.specs.declared.Bookmark.{Bookmark}
 use Rattle.volume.specs.declared.Found.{Found}
-use Rattle.volume.specs.declared.ReadAnswer.{ReadAnswer}
+use Rattle.volume.specs.Answers.{ReadAnswer}
 use Rattle.volume.specs.inner.Walk.{on_read}
 use Rattle.volume.proofs.Walk.{walk_step}
 use Rattle.listing.specs.Listing.{list_limit}
@@ -38,12 +39,12 @@ module _ {volume old : List ℕ} {at : ℕ} {first : Bookmark} {out : List ℕ} 
   left_written r e new answer w = r.onward new answer (rw (walk_step volume (listing_way volume) mark e) w)
 
   -- the line of the block at a bookmark, and then the next bookmark
-  pub line_fits : Reached volume old at first out mark place → (found : Found) → read_answer volume mark ≡ ReadAnswer.Found found
+  pub line_fits : Reached volume old at first out mark place → (found : Found) → read_answer volume mark ≡ Ok (Some found)
       → place + length (found_line volume mark found) ≤ list_limit
   unfolding on_read
   line_fits r found e = omega (arith, simp length-append at (left_fits r e))
 
-  pub passed : Reached volume old at first out mark place → (found : Found) → read_answer volume mark ≡ ReadAnswer.Found found
+  pub passed : Reached volume old at first out mark place → (found : Found) → read_answer volume mark ≡ Ok (Some found)
       → {new : List ℕ} {next : ℕ} → Wrote out place (found_line volume mark found) new next
       → Reached volume old at first new found.next next
   unfolding on_read

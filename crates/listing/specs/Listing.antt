@@ -1,9 +1,8 @@
 -- The listing of a volume: the forms of its lines, and what `list` answers. Which lines a volume has, claims/specs/Listed.antt says.
-use Rattle.std.specs.Prelude.{ℕ, cond, List, ◌++◌, leb, length}
+use Rattle.std.specs.Prelude.{ℕ, cond, List, ◌++◌, leb, length, Ok, Err}
 use Rattle.number.specs.Ascii.{ascii}
 use Rattle.refusal.specs.Refusal.{refusal_of}
-use Rattle.listing.specs.declared.ListAnswer.{ListAnswer}
-use Rattle.listing.specs.declared.ListAnswer.TheVariants.{Written, Refused}
+use Rattle.listing.specs.Answers.{ListAnswer}
 use Rattle.listing.specs.Decimal.{decimal}
 
 abbrev pub heading_line : List ℕ
@@ -25,4 +24,4 @@ list_limit = 65536
 
 -- how long the text is, or 17 where the room is too small
 unfoldable pub list_answer : (room : ℕ) (text : List ℕ) → ListAnswer
-list_answer room text = cond (leb (length text) room) (Written (length text)) (Refused (refusal_of 17))
+list_answer room text = cond (leb (length text) room) (Ok (length text)) (Err (refusal_of 17))

@@ -1,5 +1,8 @@
 // The pieces of the text. A writer takes the offset at which its piece begins in the room and answers the offset after
 // it. It answers the same where the room is too short for the piece, so the text can be measured without room.
+//
+// The room and the offset are no struct: where the text is measured there is no room, and the offset lies past its end, so a struct
+// could promise nothing of the two, and `Wrote` would speak of each as it does now.
 ghost use Rattle.std.specs.Prelude.{◌+◌, ◌≤◌, ◌<◌, [], ◌∷◌, ◌++◌, length};
 ghost use Rattle.listing.specs.Decimal.{digit, decimal};
 ghost use Rattle.listing.specs.Listing.{list_limit, block_line, end_line, refused_line};
@@ -23,7 +26,7 @@ fn put_digit(out: &mut [u8], at: usize, value: u64) -> usize
     at + 1
 }
 
-// Writes a number in decimal.
+// Writes a number in decimal. By hand and not by `write!`: the text is measured without room, and is proved to be `decimal`.
 fn put_decimal(out: &mut [u8], at: usize, value: u64) -> usize
     requires { at + length (decimal value) ≤ list_limit }
     ensures { Wrote out.old at (decimal value) out.new result }

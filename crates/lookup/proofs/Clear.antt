@@ -1,7 +1,7 @@
 -- What a lookup that is not refused knows: the block is the inode of a regular file, its extents keep their rules, and what
 -- they name is there. Assumes nothing.
 use Prim.Native.Nat.{ℕ, ◌+◌, ◌%◌, ◌≤◌, ◌<◌}
-use mathlib.Core.Path.{◌≡◌, refl, ap, subst, ◌∙◌}
+use mathlib.Core.Path.{◌≡◌, refl, sym, ap, subst, ◌∙◌}
 use mathlib.Core.Bool.{true, false, false≢true}
 use mathlib.Mathlib.Data.Bool.Basic.{or-eq-false-eq-eq-false-and-eq-false as both_false}
 use mathlib.Core.List.{List}
@@ -109,6 +109,10 @@ unfolding lookup_fault
 a_lookup_without_a_fault_is_clear volume offset lengths e =
     let parts = both_clear (open_order volume offset lengths) _ (open_numbered volume offset lengths) e in
     record { opening = opened volume offset lengths parts.0; none_absent = passed 0 _ tt parts.1 }
+
+-- the file that such a lookup opens
+pub file_of : (volume : List ℕ) (offset : ℕ) (lengths : List ℕ) → 0 ≡ lookup_fault volume offset lengths → RegularFile volume offset
+file_of volume offset lengths e = (a_lookup_without_a_fault_is_clear volume offset lengths (sym e)).opening.file
 
 -- no extent of a list is absent
 pub each_present : (lengths list : List ℕ) → some_absent lengths list ≡ false

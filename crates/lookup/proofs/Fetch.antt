@@ -1,6 +1,8 @@
 -- The checks of a fetch, one header after the other, and what a fetch that is not refused knows of its range. Assumes nothing.
-use mathlib.Core.Path.{◌≡◌, refl, ap, ◌∙◌}
-use mathlib.Core.Bool.{Bool, true, false, cond}
+use Rattle.std.specs.Prelude.{Result, Ok, Err}
+use Rattle.std.specs.Result.{is_err}
+use mathlib.Core.Path.{◌≡◌, refl, sym, ap, ◌∙◌}
+use mathlib.Core.Bool.{Bool, true, false, cond, false≢true}
 use mathlib.Core.Option.{Option, none, some}
 use mathlib.Core.List.{List, [], ◌∷◌, ◌++◌}
 use Prim.Native.Nat.{ℕ, ◌+◌, ◌≤◌}
@@ -12,9 +14,21 @@ use Rattle.number.specs.Number.{part}
 use Rattle.number.specs.Address.{Address, address_in}
 use Rattle.checks.specs.Checks.{Check, check, first_fault}
 use Rattle.checks.proofs.Laws.{passed, passed_part, first_fault-append}
+use Rattle.refusal.specs.Faults.{fault_number}
+use Rattle.refusal.specs.declared.Fault.{Fault}
+use Rattle.refusal.proofs.Numbers.{number_above_zero}
 use Rattle.volume.specs.Heading.{sequence_of, header_order, header_fault}
 use Rattle.lookup.specs.Fetch.{whichever, chosen, out_of, fetch_order, fetch_fault}
 use Rattle.lookup.specs.inner.Part.{fetch_part, fetch_address}
+
+-- what a call that looks for a fault says by whether it answers an error
+pub at_fault : {A : Type 0} (r : Result A Fault) {fault : ℕ} → fault_number r ≡ fault → is_err r ≡ true → fault ≡ 0 → ⊥
+at_fault (Ok x) told e = absurd (false≢true e)
+at_fault (Err found) told e = λ z. number_above_zero found (told ∙ z)
+
+pub without_fault : {A : Type 0} (r : Result A Fault) {fault : ℕ} → fault_number r ≡ fault → is_err r ≡ false → fault ≡ 0
+without_fault (Ok x) told e = sym told
+without_fault (Err found) told e = absurd (false≢true (sym e))
 
 -- the first header decides before the second, and the second before the rest
 pub by_headers : (first second : List ℕ) (others : List Check)

@@ -1,5 +1,6 @@
 -- No lookup is refused with 18: an extent whose blocks have size 0 has no raw bytes (S×C is 0), so L is 0 and it keeps
 -- nothing, whatever its other fields say. The check stands in the table, and is never at fault. Assumes nothing.
+use Rattle.std.specs.Prelude.{Err}
 use Prim.Native.Nat.{ℕ}
 use mathlib.Core.Path.{◌≡◌, refl, sym, ap, ◌∙◌}
 use mathlib.Core.Bool.{Bool, true, false, cond, ◌||◌, and-eq-true_iff, false≢true}
@@ -13,7 +14,7 @@ use borrow.Author.Tests.{ltb-true, eqb-true}
 use Rattle.checks.specs.Checks.{Check, check}
 use Rattle.checks.proofs.Laws.{gives, given}
 use Rattle.checks.proofs.Scan.{any_nowhere}
-use Rattle.refusal.specs.declared.Refusal.{Refusal}
+use Rattle.refusal.specs.Refusal.{Refusal}
 use Rattle.refusal.proofs.Laws.{with_number}
 use Rattle.format.specs.declared.Extent.{Extent}
 use Rattle.format.specs.Extents.{kept_length}
@@ -22,8 +23,6 @@ use Rattle.format.specs.Blocks.{FileType, regular, symbolic_link, other}
 use Rattle.extent.specs.Extents.{extent_at, extent_count}
 use Rattle.block.specs.Fields.{kind_at, type_at, size_at, rest_at}
 use Rattle.block.specs.Order.{rest_order, kind_order}
-use Rattle.lookup.specs.declared.PositionAnswer.TheVariants.{Refused}
-use Rattle.lookup.specs.declared.RunsAnswer.TheVariants.{Refused as RunsRefused}
 use Rattle.lookup.specs.Lookup.{not_file, is_stray, some_stray, extents_order, lookup_order, lookup_fault, runs_order, runs_fault}
 use Rattle.lookup.specs.inner.Answers.{position_answer, runs_answer}
 use Rattle.lookup.proofs.Refusals.{position_refusal, runs_refusal}
@@ -93,13 +92,13 @@ range_query_never_gives_18 volume offset lengths from to room e =
 
 -- so no answer has it either
 pub no_position_is_refused_with_18 : (volume : List ℕ) (offset : ℕ) (lengths : List ℕ) (position : ℕ) (refusal : Refusal)
-    → position_answer volume offset lengths position ≡ Refused refusal → refusal.number ≡ 18 → ⊥
+    → position_answer volume offset lengths position ≡ Err refusal → refusal.number ≡ 18 → ⊥
 no_position_is_refused_with_18 volume offset lengths position refusal e n =
     let same = position_refusal volume offset lengths position refusal e in
     lookup_never_gives_18 volume offset lengths (sym (with_number _ _) ∙ ap (λ (r : Refusal). r.number) same ∙ n)
 
 pub no_range_is_refused_with_18 : (volume : List ℕ) (offset : ℕ) (lengths : List ℕ) (from to room : ℕ) (refusal : Refusal)
-    → runs_answer volume offset lengths from to room ≡ RunsRefused refusal → refusal.number ≡ 18 → ⊥
+    → runs_answer volume offset lengths from to room ≡ Err refusal → refusal.number ≡ 18 → ⊥
 no_range_is_refused_with_18 volume offset lengths from to room refusal e n =
     let same = runs_refusal volume offset lengths from to room refusal e in
     range_query_never_gives_18 volume offset lengths from to room (sym (with_number _ _) ∙ ap (λ (r : Refusal). r.number) same ∙ n)

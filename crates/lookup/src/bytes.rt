@@ -1,13 +1,13 @@
 // Fetching stored bytes: the very part of one of two lent volumes.
 ghost use Rattle.std.specs.Prelude.{◌≡◌, ◌+◌, ◌≤◌, ltb, length};
+ghost use Rattle.refusal.specs.Faults.{fault_number};
 ghost use Rattle.number.specs.Number.{part};
 ghost use Rattle.number.specs.Address.{address_in};
 ghost use Rattle.lookup.specs.Fetch.{out_of, chosen, fetch_fault};
 ghost use Rattle.lookup.specs.inner.Part.{fetch_part, fetch_address};
 
-use block::lending::NO_TABLES;
 use format::Physical;
-use refusal::NOT_THERE;
+use refusal::Fault;
 
 // Whether `len` bytes from `offset` on reach beyond `end`. The rest is compared and nothing is added: the sum may not fit.
 fn reaches_beyond(end: usize, offset: Physical, len: u64) -> bool
@@ -22,6 +22,7 @@ fn reaches_beyond(end: usize, offset: Physical, len: u64) -> bool
 }
 
 // Whether neither volume has the number, or the range reaches beyond the one that has it.
+#[tactic(auto, unfolding(crate::specs::Fetch::chosen))]
 fn is_out_of(first: &[u8], second: &[u8], number: u64, offset: Physical, len: u64) -> bool
     ensures { result ≡ out_of offset.0 len (chosen first.now second.now number) }
 {
@@ -34,22 +35,22 @@ fn is_out_of(first: &[u8], second: &[u8], number: u64, offset: Physical, len: u6
     true
 }
 
-// Why these bytes cannot be fetched: 0 where they can, else the refusal's number.
-pub fn fetch_refusal(first: &[u8], second: &[u8], number: u64, offset: Physical, len: u64) -> u64
-    ensures { result ≡ fetch_fault first.now second.now number offset.0 len }
+// Whether these bytes can be fetched, or why not.
+pub fn fetch_refusal(
+    first: &[u8],
+    second: &[u8],
+    number: u64,
+    offset: Physical,
+    len: u64,
+) -> Result<(), Fault>
+    ensures { fault_number result ≡ fetch_fault first.now second.now number offset.0 len }
 {
-    let fault = volume::heading::header_fault(&NO_TABLES, first);
-    if fault != 0 {
-        return fault;
-    }
-    let fault2 = volume::heading::header_fault(&NO_TABLES, second);
-    if fault2 != 0 {
-        return fault2;
-    }
+    volume::heading::header_fault(None, first)?;
+    volume::heading::header_fault(None, second)?;
     if is_out_of(first, second, number, offset, len) {
-        return NOT_THERE;
+        return Err(Fault::NotThere);
     }
-    0
+    Ok(())
 }
 
 // `len` bytes of a volume from `offset` on.
@@ -76,7 +77,7 @@ pub fn fetch<'a>(
     ensures address { result.ref_ptr ≡ fetch_address first.now second.now first.entry.ref_ptr second.entry.ref_ptr
         number offset.0 len }
 {
-    if fetch_refusal(first, second, number, offset, len) != 0 {
+    if fetch_refusal(first, second, number, offset, len).is_err() {
         return &first[0..0];
     }
     if number::read_u64(first, 36) == number {

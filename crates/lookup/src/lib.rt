@@ -11,27 +11,18 @@ mod presence;
 pub mod query;
 
 use format::Physical;
-use refusal::Refusal;
 
 // A stored byte: the volume that holds it, and where.
-#[derive(Clone, Copy)]
+#[derive(Clone, Copy, Debug)]
 pub struct Stored {
     pub volume: u64,
     pub offset: Physical,
 }
 
 // What stands at a position.
-#[derive(Clone, Copy)]
-pub enum PositionAnswer {
+#[derive(Clone, Copy, Debug)]
+pub enum Position {
     Hole,
     PastEnd,
     Stored(Stored),
-    Refused(Refusal),
-}
-
-// How many runs a range has.
-#[derive(Clone, Copy)]
-pub enum RunsAnswer {
-    Runs(u64),
-    Refused(Refusal),
 }

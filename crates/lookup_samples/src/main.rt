@@ -3,8 +3,8 @@
 #![tactic(auto)]
 
 use format::{Logical, Physical};
-use lookup::{PositionAnswer, RunsAnswer};
-use printing::{load, print_number, print_pair, print_refusal, print_word};
+use lookup::Position;
+use printing::{load, print_bytes};
 use std::io;
 use std::rt::Files;
 
@@ -26,31 +26,9 @@ const NOTHING_AT: usize = 839;
 
 const COPIES_AT: usize = 971;
 
-fn print_place(rt: &impl Print, answer: PositionAnswer) -> io::Result<()> {
-    match answer {
-        PositionAnswer::Hole => print_word(rt, b"hole"),
-        PositionAnswer::PastEnd => print_word(rt, b"past end"),
-        PositionAnswer::Stored(place) => {
-            print_pair(rt, b"volume ", place.volume)?;
-            print_pair(rt, b" offset ", place.offset.0)
-        }
-        PositionAnswer::Refused(refusal) => print_refusal(rt, refusal),
-    }
-}
-
-fn print_count(rt: &impl Print, answer: RunsAnswer) -> io::Result<()> {
-    match answer {
-        RunsAnswer::Runs(count) => {
-            print_number(rt, count)?;
-            print_word(rt, b" runs")
-        }
-        RunsAnswer::Refused(refusal) => print_refusal(rt, refusal),
-    }
-}
-
 fn print_numbers(rt: &impl Print, numbers: &[u64]) -> io::Result<()> {
     for number in numbers {
-        print_pair(rt, b" ", *number)?;
+        print!(rt; " {number}")?;
     }
     Ok(())
 }
@@ -62,14 +40,15 @@ fn position_row(
     lengths: &[u8],
     position: u64,
 ) -> io::Result<()> {
-    print_pair(rt, b"inode at ", offset as u64)?;
-    print_pair(rt, b", position ", position)?;
-    print_word(rt, b": ")?;
-    print_place(
-        rt,
-        lookup::query::position(volume, offset, lengths, Logical(position)),
-    )?;
-    print_word(rt, b"\n")
+    print!(rt; "inode at {offset}, position {position}: ")?;
+    match lookup::query::position(volume, offset, lengths, Logical(position)) {
+        Ok(Position::Hole) => println!(rt; "hole"),
+        Ok(Position::PastEnd) => println!(rt; "past end"),
+        Ok(Position::Stored(place)) => {
+            println!(rt; "volume {} offset {}", place.volume, place.offset.0)
+        }
+        Err(refusal) => println!(rt; "{refusal}"),
+    }
 }
 
 // The lent list holds nines before the call and is printed whole after it, so that a number which was not to change shows.
@@ -82,17 +61,13 @@ fn runs_row(
     to: u64,
     out: &mut [u64],
 ) -> io::Result<()> {
-    print_pair(rt, b"inode at ", offset as u64)?;
-    print_pair(rt, b", ", from)?;
-    print_pair(rt, b" to ", to)?;
-    print_pair(rt, b", room ", out.len() as u64)?;
-    print_word(rt, b": ")?;
-    print_count(
-        rt,
-        lookup::query::runs(volume, offset, lengths, Logical(from), Logical(to), out),
-    )?;
+    print!(rt; "inode at {offset}, {from} to {to}, room {}: ", out.len())?;
+    match lookup::query::runs(volume, offset, lengths, Logical(from), Logical(to), out) {
+        Ok(count) => print!(rt; "{count} runs")?,
+        Err(refusal) => print!(rt; "{refusal}")?,
+    }
     print_numbers(rt, out)?;
-    print_word(rt, b"\n")
+    println!(rt;)
 }
 
 fn fetch_row<'a>(
@@ -103,20 +78,17 @@ fn fetch_row<'a>(
     offset: u64,
     len: u64,
 ) -> io::Result<()> {
-    print_pair(rt, b"fetch ", len)?;
-    print_pair(rt, b" at ", offset)?;
-    print_pair(rt, b" of volume ", number)?;
-    print_pair(
-        rt,
-        b": ",
-        lookup::bytes::fetch_refusal(first, second, number, Physical(offset), len),
+    let offset = Physical(offset);
+    let refusal = match lookup::bytes::fetch_refusal(first, second, number, offset, len) {
+        Ok(()) => 0,
+        Err(fault) => u64::from(fault),
+    };
+    print!(rt;
+        "fetch {len} at {} of volume {number}: {refusal} [",
+        offset.0
     )?;
-    print_word(rt, b" [")?;
-    print_word(
-        rt,
-        lookup::bytes::fetch(first, second, number, Physical(offset), len),
-    )?;
-    print_word(rt, b"]\n")
+    print_bytes(rt, lookup::bytes::fetch(first, second, number, offset, len))?;
+    println!(rt; "]")
 }
 
 // Stored bytes, holes, and positions past the end.
@@ -137,7 +109,7 @@ fn repeated_block(rt: &impl Print, volume: &[u8]) -> io::Result<()> {
     position_row(rt, volume, B_AT, &lengths, 6)?;
     position_row(rt, volume, B_AT, &lengths, 10)?;
     position_row(rt, volume, B_AT, &lengths, 11)?;
-    position_row(rt, volume, B_AT, &lengths, 18446744073709551615)
+    position_row(rt, volume, B_AT, &lengths, u64::MAX)
 }
 
 // What is refused, whatever position is asked.
@@ -173,15 +145,7 @@ fn ranges(rt: &impl Print, volume: &[u8]) -> io::Result<()> {
     runs_row(rt, volume, B_AT, &lengths, 0, 14, &mut [9u64; 24])?;
     runs_row(rt, volume, B_AT, &lengths, 0, 14, &mut [9u64; 26])?;
     runs_row(rt, volume, B_AT, &lengths, 5, 10, &mut [9u64; 16])?;
-    runs_row(
-        rt,
-        volume,
-        B_AT,
-        &lengths,
-        13,
-        18446744073709551615,
-        &mut [9u64; 5],
-    )?;
+    runs_row(rt, volume, B_AT, &lengths, 13, u64::MAX, &mut [9u64; 5])?;
     Ok(())
 }
 
@@ -198,7 +162,7 @@ fn ranges_at_the_edges(rt: &impl Print, volume: &[u8]) -> io::Result<()> {
         COPIES_AT,
         &lengths,
         0,
-        18446744073709551615,
+        u64::MAX,
         &mut [9u64; 30],
     )?;
     runs_row(rt, volume, COPIES_AT, &lengths, 5, 8, &mut [9u64; 15])?;
@@ -215,14 +179,7 @@ fn fetches<'a>(rt: &impl Print, gauge: &'a [u8], later: &'a [u8]) -> io::Result<
     fetch_row(rt, gauge, later, 2, 97, 3)?;
     fetch_row(rt, gauge, later, 0, 1103, 0)?;
     fetch_row(rt, gauge, later, 0, 1103, 1)?;
-    fetch_row(
-        rt,
-        gauge,
-        later,
-        0,
-        18446744073709551615,
-        18446744073709551615,
-    )
+    fetch_row(rt, gauge, later, 0, u64::MAX, u64::MAX)
 }
 
 // Both headers are checked first, the first one before the second.
@@ -239,13 +196,11 @@ fn fetches_refused<'a>(
 }
 
 // A position and a range of what stands first in a volume.
-fn both_lookups(rt: &(impl Print + Eprint + Files), name: &[u8], lengths: &[u8]) -> io::Result<()> {
+fn both_lookups(rt: &(impl Print + Eprint + Files), name: &str, lengths: &[u8]) -> io::Result<()> {
     let mut buf = [0u8; 256];
-    let n = load(rt, name, &mut buf)?;
+    let n = load(rt, name.as_bytes(), &mut buf)?;
     let volume = &buf[..n];
-    print_word(rt, name)?;
-    print_pair(rt, b", ", lengths.len() as u64)?;
-    print_word(rt, b" bytes of lengths:\n")?;
+    println!(rt; "{name}, {} bytes of lengths:", lengths.len())?;
     position_row(rt, volume, 80, lengths, 0)?;
     runs_row(rt, volume, 80, lengths, 0, 3, &mut [9u64; 3])?;
     Ok(())
@@ -254,20 +209,20 @@ fn both_lookups(rt: &(impl Print + Eprint + Files), name: &[u8], lengths: &[u8])
 // Which text of the block is the first that is bad, and where. The lengths come before that and the kind of the block after it.
 fn bad_texts(rt: &(impl Print + Eprint + Files)) -> io::Result<()> {
     let lengths = [104u8, 0, 0, 0, 0, 0, 0, 0];
-    both_lookups(rt, b"link_bad.vol", &lengths)?;
-    both_lookups(rt, b"link_bad.vol", &[0u8; 9])?;
-    both_lookups(rt, b"target_bad.vol", &lengths)?;
-    both_lookups(rt, b"new_path_bad.vol", &lengths)?;
+    both_lookups(rt, "link_bad.vol", &lengths)?;
+    both_lookups(rt, "link_bad.vol", &[0u8; 9])?;
+    both_lookups(rt, "target_bad.vol", &lengths)?;
+    both_lookups(rt, "new_path_bad.vol", &lengths)?;
     Ok(())
 }
 
 // Bytes that are no text, and refusals before that of a text: a wrong checksum, and a table, which no lookup is made at.
 fn no_bad_texts(rt: &(impl Print + Eprint + Files)) -> io::Result<()> {
     let lengths = [104u8, 0, 0, 0, 0, 0, 0, 0];
-    both_lookups(rt, b"xattr_value_not_text.vol", &lengths)?;
-    both_lookups(rt, b"folder_with_byte_ff.vol", &lengths)?;
-    both_lookups(rt, b"link_bad_with_wrong_sum.vol", &lengths)?;
-    both_lookups(rt, b"two_names_bad.vol", &lengths)?;
+    both_lookups(rt, "xattr_value_not_text.vol", &lengths)?;
+    both_lookups(rt, "folder_with_byte_ff.vol", &lengths)?;
+    both_lookups(rt, "link_bad_with_wrong_sum.vol", &lengths)?;
+    both_lookups(rt, "two_names_bad.vol", &lengths)?;
     Ok(())
 }
 

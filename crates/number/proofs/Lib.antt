@@ -4,3 +4,4 @@ pub mod Halves
 pub mod Same
 pub mod Parts
 pub mod Order
+pub mod Library

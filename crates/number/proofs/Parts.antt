@@ -3,14 +3,11 @@
 use Prim.Native.Nat.{ℕ, ◌+◌, ◌-◌, ◌^◌, ◌≤◌, ◌<◌, min}
 use mathlib.Core.Path.{◌≡◌, sym, ap, ◌∙◌}
 use mathlib.Core.List.{List, ◌++◌}
-use mathlib.Core.Logic.{⊎_elim}
-use mathlib.Mathlib.Data.Bool.Basic.{dichotomy}
-use native.Mathlib.Nat.{add-sub_cancel_left, min-eq_left, min-eq_right}
+use native.Mathlib.Nat.{add-sub_cancel_left}
 use native.Mathlib.Omega.{arith}
-use lib.Dec.{ltb}
-use lib.ListN.{length, take, drop, get_or, length-take, length-drop, drop_of_length-le, take-append-drop}
+use Rattle.std.proofs.lemmas.List.{drop_min}
+use lib.ListN.{length, take, drop, get_or, length-take, length-drop, take-append-drop}
 use lib.Seq.{take-length, take_all, length-take-le, take-add, drop-drop, take_at, drop_at, get_or-take, get_or-drop, take-append-le, drop-append-le}
-use borrow.Author.Tests.{ltb-true, ltb-false}
 use Rattle.number.specs.Number.{Bytes, le, le_bytes, part, number_at}
 use Rattle.number.proofs.Digits.{bytes_take, bytes_drop, length-le_bytes, le-le_bytes, le_bytes-le}
 
@@ -75,24 +72,6 @@ pub number_at_lem : (bytes rest : List ℕ) (offset width value : ℕ) → drop 
     → value < 256 ^ width → number_at bytes offset width ≡ value
 number_at_lem bytes rest offset width value e h =
     ap le (part_at bytes (le_bytes width value) rest offset width e (length-le_bytes width value)) ∙ le-le_bytes width value h
-
--- past the end nothing is left, wherever the part begins
-drop_min : (bytes : List ℕ) (at : ℕ) → drop (min at (length bytes)) bytes ≡ drop at bytes
-drop_min bytes at =
-    ⊎_elim
-    (λ e.
-    let l : length bytes ≤ at = ltb-false at (length bytes) e in
-    rw (min-eq_right l) (drop_of_length-le bytes {i = length bytes} (omega arith) ∙ sym (drop_of_length-le bytes l)))
-    (λ e. rw (min-eq_left {n = at} {m = length bytes} (omega (arith, ltb-true at (length bytes) e))))
-    (dichotomy (ltb at (length bytes)))
-
--- the part that is all that is left, counted from the end of the bytes
-pub part_left : (bytes : List ℕ) (from len rest start : ℕ) → rest ≡ length bytes - from → rest ≤ len → start ≡ length bytes - rest
-    → part bytes start (length bytes - start) ≡ part bytes from len
-part_left bytes from len rest start r h s =
-    let m : start ≡ min from (length bytes) = omega arith in
-    part_onward bytes start ∙ ap (λ (n : ℕ). drop n bytes) m ∙ drop_min bytes from
-    ∙ sym (take_all len (drop from bytes) (omega (arith, length-drop from bytes)))
 
 -- a number read from the part that begins at an offset, or at the end of the bytes where that comes first, is read in the whole
 pub number_from : (bytes : List ℕ) (at from offset width : ℕ) → from ≡ min at (length bytes)

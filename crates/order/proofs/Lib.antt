@@ -3,3 +3,4 @@ pub mod Shift
 pub mod Halving
 pub mod Inserts
 pub mod Held
+pub mod Parts

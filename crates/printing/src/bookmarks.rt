@@ -1,91 +1,123 @@
 // Bookmarks, what an append at one answers, and what readings from one on do.
-use crate::{print_pair, print_refusal, print_word};
 use block::Block;
+use format::new_block::NewBlock;
 use refusal::Refusal;
-use std::io;
-use volume::{Bookmark, Found, LastTime, ReadAnswer, WriteAnswer};
+use std::{fmt, io};
+use volume::{Bookmark, Found};
 
 // Internal: the most blocks that a bookmark can count.
-pub const MOST_BLOCKS: u64 = 18446744073709551615;
+pub const MOST_BLOCKS: u64 = u64::MAX;
 
-// Internal: prints a bookmark. Of a table it says only that one is due.
-pub fn print_mark(rt: &impl Print, mark: Bookmark) -> io::Result<()> {
-    let last = mark.last;
-    print_pair(rt, b" ", mark.offset as u64)?;
-    if mark.due {
-        print_word(rt, b", table due")?;
+// Internal: the bookmark after the header of volume 0. A bookmark that no call hands out is written as what differs from it.
+pub const FIRST: Bookmark = Bookmark {
+    offset: 80,
+    due: false,
+    last: None,
+    number: 0,
+};
+
+// Internal: the same where no more blocks can be counted.
+pub const FULL: Bookmark = Bookmark {
+    number: MOST_BLOCKS,
+    ..FIRST
+};
+
+// Internal: a bookmark for calls that need none.
+pub const NOWHERE: Bookmark = Bookmark { offset: 0, ..FIRST };
+
+// Internal: a value of the library as the programs print it.
+#[derive(Clone, Copy)]
+pub struct Shown<T>(pub T);
+
+// Of a table a bookmark says only that one is due.
+impl fmt::Display for Shown<Bookmark> {
+    fn fmt<W: fmt::Write>(&self, f: &mut fmt::Formatter<W>) -> fmt::Result {
+        write!(f, "{}", self.0.offset)?;
+        if self.0.due {
+            write!(f, ", table due")?;
+        }
+        match self.0.last {
+            None => write!(f, ", no last time")?,
+            Some(time) => write!(f, ", last time {time}")?,
+        }
+        write!(f, ", number {}", self.0.number)
     }
-    match last {
-        LastTime::Never => print_word(rt, b", no last time")?,
-        LastTime::At(time) => print_pair(rt, b", last time ", time)?,
-    }
-    print_pair(rt, b", number ", mark.number)
 }
 
-// Internal: ends a line with a refusal.
-pub fn print_refused(rt: &impl Print, refusal: Refusal) -> io::Result<()> {
-    print_word(rt, b": ")?;
-    print_refusal(rt, refusal)?;
-    print_word(rt, b"\n")
+impl fmt::Display for Shown<Block> {
+    fn fmt<W: fmt::Write>(&self, f: &mut fmt::Formatter<W>) -> fmt::Result {
+        match self.0 {
+            Block::Inode(b) => write!(f, "inode at time {}", b.time),
+            Block::Link(b) => write!(f, "link at time {}", b.time),
+            Block::Unlink(b) => write!(f, "unlink at time {}", b.time),
+            Block::Xattr(b) => write!(f, "xattr at time {}", b.time),
+            Block::RemovedXattr(b) => write!(f, "removed xattr at time {}", b.time),
+            Block::Data(b) => write!(f, "data at time {}", b.time),
+            Block::Rename(b) => write!(f, "rename at time {}", b.time),
+            Block::Table(_) => write!(f, "table"),
+        }
+    }
+}
+
+impl fmt::Display for Shown<Found> {
+    fn fmt<W: fmt::Write>(&self, f: &mut fmt::Formatter<W>) -> fmt::Result {
+        let found = self.0;
+        write!(
+            f,
+            "block {}, {}, next {}",
+            found.number,
+            Shown(found.block),
+            Shown(found.next)
+        )
+    }
 }
 
 // Internal: prints the answer of a call that writes, and gives the bookmark for the next one: after a refusal, the same again.
 pub fn onward(
     rt: &impl Print,
-    call: &[u8],
+    call: &str,
     mark: Bookmark,
-    answer: WriteAnswer,
+    answer: Result<Bookmark, Refusal>,
 ) -> io::Result<Bookmark> {
-    print_word(rt, b"write ")?;
-    print_word(rt, call)?;
     match answer {
-        WriteAnswer::Next(next) => {
-            print_word(rt, b": next")?;
-            print_mark(rt, next)?;
-            print_word(rt, b"\n")?;
+        Ok(next) => {
+            println!(rt; "write {call}: next {}", Shown(next))?;
             Ok(next)
         }
-        WriteAnswer::Refused(refusal) => {
-            print_refused(rt, refusal)?;
+        Err(refusal) => {
+            println!(rt; "write {call}: {refusal}")?;
             Ok(mark)
         }
     }
 }
 
-fn print_block(rt: &impl Print, block: Block) -> io::Result<()> {
-    match block {
-        Block::Inode(b) => print_pair(rt, b", inode at time ", b.time),
-        Block::Link(b) => print_pair(rt, b", link at time ", b.time),
-        Block::Unlink(b) => print_pair(rt, b", unlink at time ", b.time),
-        Block::Xattr(b) => print_pair(rt, b", xattr at time ", b.time),
-        Block::RemovedXattr(b) => print_pair(rt, b", removed xattr at time ", b.time),
-        Block::Data(b) => print_pair(rt, b", data at time ", b.time),
-        Block::Rename(b) => print_pair(rt, b", rename at time ", b.time),
-        Block::Table(_) => print_word(rt, b", table"),
-    }
+// Internal: appends a block, prints the answer, and gives the bookmark for the next call.
+pub fn append(
+    rt: &impl Print,
+    buf: &mut [u8],
+    call: &str,
+    mark: Bookmark,
+    block: NewBlock<'_>,
+) -> io::Result<Bookmark> {
+    onward(rt, call, mark, mark.append(buf, block))
 }
 
-fn print_found(rt: &impl Print, found: Found) -> io::Result<()> {
-    let block = found.block;
-    let next = found.next;
-    print_pair(rt, b": block ", found.number)?;
-    print_block(rt, block)?;
-    print_word(rt, b", next")?;
-    print_mark(rt, next)?;
-    print_word(rt, b"\n")
-}
-
-// Reads at a bookmark, prints what that answers and hands it on.
-fn reading(rt: &impl Print, volume: &[u8], mark: Bookmark) -> io::Result<ReadAnswer> {
-    let answer = mark.read(volume);
-    print_word(rt, b"read at")?;
-    print_mark(rt, mark)?;
-    match answer {
-        ReadAnswer::Found(found) => print_found(rt, found)?,
-        ReadAnswer::End => print_word(rt, b": end\n")?,
-        ReadAnswer::Refused(refusal) => print_refused(rt, refusal)?,
+// Reads at a bookmark, prints what that answers, and hands on the block.
+fn reading(rt: &impl Print, volume: &[u8], mark: Bookmark) -> io::Result<Option<Found>> {
+    match mark.read(volume) {
+        Ok(Some(found)) => {
+            println!(rt; "read at {}: {}", Shown(mark), Shown(found))?;
+            Ok(Some(found))
+        }
+        Ok(None) => {
+            println!(rt; "read at {}: end", Shown(mark))?;
+            Ok(None)
+        }
+        Err(refusal) => {
+            println!(rt; "read at {}: {refusal}", Shown(mark))?;
+            Ok(None)
+        }
     }
-    Ok(answer)
 }
 
 // Internal: prints what each reading answers from a bookmark on, until the end or a refusal. Each block takes at least a byte,
@@ -93,7 +125,7 @@ fn reading(rt: &impl Print, volume: &[u8], mark: Bookmark) -> io::Result<ReadAns
 pub fn print_readings(rt: &impl Print, volume: &[u8], first: Bookmark) -> io::Result<()> {
     let mut mark = first;
     for _ in 0..volume.len() {
-        let ReadAnswer::Found(found) = reading(rt, volume, mark)? else {
+        let Some(found) = reading(rt, volume, mark)? else {
             return Ok(());
         };
         mark = found.next;

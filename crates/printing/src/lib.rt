@@ -1,42 +1,20 @@
-// What the sample programs share: words, numbers, refusals, bookmarks, appends and readings on standard output, and files read
+// What the sample programs share: the blocks that they write, bookmarks, appends and readings on standard output, and files read
 // whole. A write or a read that fails is handed on as an error.
 #![tactic(auto)]
 
+pub mod blocks;
 pub mod bookmarks;
 
 ghost use Rattle.std.specs.Prelude.{◌≡◌, length};
 ghost use Rattle.std.specs.Io.{ReadsAtMost};
 
-use refusal::{NOT_TEXT, Refusal};
 use std::io::{self, Read, Write};
 use std::rt::Files;
 use std::{fs, str};
 
-// Internal: prints a word.
-pub fn print_word(rt: &impl Print, word: &[u8]) -> io::Result<()> {
-    io::writer(rt).write_all(word)
-}
-
-// Internal: prints a number in decimal.
-pub fn print_number(rt: &impl Print, number: u64) -> io::Result<()> {
-    print!(rt; "{number}")
-}
-
-// Internal: prints a word and a number after it.
-pub fn print_pair(rt: &impl Print, word: &[u8], number: u64) -> io::Result<()> {
-    print_word(rt, word)?;
-    print_number(rt, number)
-}
-
-// Internal: prints a refusal: its number, and which text is bad and where, if it is 10. At another number both have to be 0,
-// and are printed if they are not, so that what is compared shows it.
-pub fn print_refusal(rt: &impl Print, refusal: Refusal) -> io::Result<()> {
-    print_pair(rt, b"refused ", refusal.number)?;
-    if refusal.number == NOT_TEXT || refusal.text != 0 || refusal.start != 0 {
-        print_pair(rt, b" text ", refusal.text)?;
-        print_pair(rt, b" start ", refusal.start)?;
-    }
-    Ok(())
+// Internal: prints bytes as they are, which need not be UTF-8.
+pub fn print_bytes(rt: &impl Print, bytes: &[u8]) -> io::Result<()> {
+    io::writer(rt).write_all(bytes)
 }
 
 // Internal: reads until the buffer is full or the input ends, and answers how many bytes came.
@@ -66,10 +44,7 @@ pub fn load<R: Files + Eprint>(rt: &R, name: &[u8], buf: &mut [u8]) -> io::Resul
         return Ok(0);
     };
     match fs::open(rt, path) {
-        Ok(file) => {
-            let mut file = file;
-            read_full(&mut file, buf)
-        }
+        Ok(mut file) => read_full(&mut file, buf),
         Err(error) => {
             eprintln!(rt; "{path}: {error}")?;
             Ok(0)

@@ -8,7 +8,7 @@ use borrow.Author.Tests.{eqb-true, ne_eqb}
 use Rattle.refusal.specs.Refusal.{refusal_of, refusal_at, refusal_with}
 use Rattle.refusal.specs.inner.FirstBad.{first_bad}
 use Rattle.refusal.specs.declared.BadText.{BadText}
-use Rattle.refusal.specs.declared.Refusal.{Refusal}
+use Rattle.refusal.specs.Refusal.{Refusal}
 
 -- any number but 10
 pub with_other : (number : ℕ) (texts : List (List ℕ)) → (number ≡ 10 → ⊥) → refusal_of number ≡ refusal_with number texts

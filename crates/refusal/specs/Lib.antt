@@ -1,3 +1,4 @@
 pub mod Texts
 pub mod inner
 pub mod Refusal
+pub mod Faults

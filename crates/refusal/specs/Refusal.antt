@@ -1,8 +1,14 @@
--- The refusals that have a number.
+-- What a refusal tells.
 use Rattle.std.specs.Prelude.{ℕ, cond, List, eqb}
 use Rattle.refusal.specs.inner.FirstBad.{first_bad}
 use Rattle.refusal.specs.declared.BadText.{BadText}
-use Rattle.refusal.specs.declared.Refusal.{Refusal}
+
+-- the number of the list of refusals; where it is 10, which text is the first that is not UTF-8, counted from 0, and where in it the
+-- first ill-formed sequence starts
+pub record Refusal : Type 0 where
+  pub number : ℕ
+  pub text : ℕ
+  pub start : ℕ
 
 -- any number but 10: it has nothing to say of a text
 abbrev pub refusal_of : (number : ℕ) → Refusal

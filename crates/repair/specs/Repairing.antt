@@ -1,13 +1,11 @@
 -- What repair answers: how much of a volume is left once a block that its end cuts off is dropped.
 --
 -- That this is the longest beginning that the check accepts is claimed in claims/specs/Torn.antt.
-use Rattle.std.specs.Prelude.{ℕ, Bool, not, cond, ◌&&◌, ◌||◌, List, ltb, eqb, length}
+use Rattle.std.specs.Prelude.{ℕ, Bool, not, cond, ◌&&◌, ◌||◌, List, ltb, eqb, length, Ok, Err}
 use Rattle.volume.specs.Heading.{sequence_of}
 use Rattle.volume.specs.inner.Check.{check_answer}
-use Rattle.volume.specs.declared.Verdict.{Verdict}
-use Rattle.volume.specs.declared.Verdict.TheVariants as verdict
-use Rattle.repair.specs.declared.RepairAnswer.{RepairAnswer}
-use Rattle.repair.specs.declared.RepairAnswer.TheVariants.{Length, Refused}
+use Rattle.volume.specs.Answers.{Verdict}
+use Rattle.repair.specs.Answers.{RepairAnswer}
 
 -- a fault in the header, which begins at 0
 abbrev pub in_header : (offset : ℕ) → Bool
@@ -23,9 +21,9 @@ is_torn sequence number offset = eqb number 2 && not (in_header offset || in_tab
 
 -- the answer, by the verdict: an accepted volume's own length, a torn one's up to the block that is cut, else the refusal
 unfoldable pub repaired : (volume : List ℕ) → Verdict → RepairAnswer
-repaired volume (verdict.Accepted accepted) = Length (length volume)
-repaired volume (verdict.Refused rejected) =
-    cond (is_torn (sequence_of volume) rejected.refusal.number rejected.offset) (Length rejected.offset) (Refused rejected.refusal)
+repaired volume (Ok accepted) = Ok (length volume)
+repaired volume (Err rejected) =
+    cond (is_torn (sequence_of volume) rejected.refusal.number rejected.offset) (Ok rejected.offset) (Err rejected.refusal)
 
 unfoldable pub repair_answer : (volume : List ℕ) → RepairAnswer
 repair_answer volume = repaired volume (check_answer volume)

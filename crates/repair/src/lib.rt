@@ -5,29 +5,22 @@
 #![tactic(auto)]
 
 ghost use Rattle.std.specs.Prelude.{◌≡◌};
+ghost use Rattle.refusal.specs.Faults.{number_of};
 ghost use Rattle.repair.specs.Repairing.{is_torn, repair_answer};
 
 use block::limits::HEADER_LEN;
-use refusal::{CUT_SHORT, Refusal};
-use volume::Verdict;
+use refusal::{Fault, Refusal};
 use volume::checking::check;
 
 // Where a header has the sequence number.
 const SEQUENCE_AT: usize = 36;
 
-// The length of the longest beginning that is an accepted volume, or why nothing is repaired.
-#[derive(Clone, Copy)]
-pub enum RepairAnswer {
-    Length(usize),
-    Refused(Refusal),
-}
-
-// Whether the fault with this number, at this offset of a volume with this sequence number, is that the bytes end within a block, and
-// that is not the link table.
-fn is_torn(sequence: u64, number: u64, offset: usize) -> bool
-    ensures { result ≡ is_torn sequence number offset }
+// Whether the fault, at this offset of a volume with this sequence number, is that the bytes end within a block, and that is not the
+// link table.
+fn is_torn(sequence: u64, fault: Fault, offset: usize) -> bool
+    ensures { result ≡ is_torn sequence (number_of fault) offset }
 {
-    if number != CUT_SHORT {
+    if fault != Fault::CutShort {
         return false;
     }
     // The header is cut. No beginning of it is a volume.
@@ -41,20 +34,20 @@ fn is_torn(sequence: u64, number: u64, offset: usize) -> bool
     true
 }
 
-// Answers the length of the longest accepted beginning of an accepted or torn volume.
-pub fn repair(volume: &[u8]) -> RepairAnswer
+// Answers the length of the longest accepted beginning of an accepted or torn volume, or why nothing is repaired.
+pub fn repair(volume: &[u8]) -> Result<usize, Refusal>
     ensures { result ≡ repair_answer volume.now }
 {
     match check(volume) {
-        Verdict::Accepted(_) => RepairAnswer::Length(volume.len()),
-        Verdict::Refused(rejected) => {
+        Ok(_) => Ok(volume.len()),
+        Err(rejected) => {
             let refusal = rejected.refusal;
             let offset = rejected.offset;
             let sequence = number::read_u64(volume, SEQUENCE_AT);
-            if is_torn(sequence, refusal.number, offset) {
-                RepairAnswer::Length(offset)
+            if is_torn(sequence, refusal.fault(), offset) {
+                Ok(offset)
             } else {
-                RepairAnswer::Refused(refusal)
+                Err(refusal)
             }
         }
     }

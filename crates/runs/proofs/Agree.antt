@@ -10,7 +10,7 @@ use lib.Dec.{eqb}
 use Rattle.checks.proofs.First.{option_cases}
 use Rattle.format.specs.declared.Extent.{Extent}
 use Rattle.extent.specs.Extents.{extent_at}
-use Rattle.runs.specs.declared.Place.TheVariants.{Hole, Stored}
+use Rattle.std.specs.Prelude.{Some, None}
 use Rattle.runs.specs.Positions.{raw_byte, copy_of, keeper}
 use Rattle.runs.specs.inner.Stored.{stored_at}
 use Rattle.runs.specs.Runs.{label, IsRuns, done, run}
@@ -27,11 +27,11 @@ pub data Agrees (list : List ℕ) : (from to : ℕ) (numbers : List ℕ) → Typ
   over : {from to : ℕ} → to ≤ from → Agrees list from to []
   -- a hole, kind 0 and two zeros, and then the others
   hole_first : {from to len : ℕ} {numbers : List ℕ} → 0 < len → from + len ≤ to
-      → ((k : ℕ) → k < len → place_of list (from + k) ≡ Hole)
+      → ((k : ℕ) → k < len → place_of list (from + k) ≡ None)
       → Agrees list (from + len) to numbers → Agrees list from to (from ∷ len ∷ 0 ∷ 0 ∷ 0 ∷ numbers)
   -- stored bytes, kind 1, the volume and offsets in a row, and then the others
   stored_first : {from to len volume offset : ℕ} {numbers : List ℕ} → 0 < len → from + len ≤ to
-      → ((k : ℕ) → k < len → place_of list (from + k) ≡ Stored volume (record { 0 = offset + k }))
+      → ((k : ℕ) → k < len → place_of list (from + k) ≡ Some (volume, record { 0 = offset + k }))
       → Agrees list (from + len) to numbers → Agrees list from to (from ∷ len ∷ 1 ∷ volume ∷ offset ∷ numbers)
 
 -- within one copy of a block, offsets go up with positions
@@ -54,11 +54,11 @@ module _ (e : Extent) (position k : ℕ) (low : e.logical.0 ≤ position) where
 module _ (list : List ℕ) where
   -- the positions of a run, by the label of its first
   module _ (from len : ℕ) (all : (k : ℕ) → k < len → label list (from + k) ≡ label list from) where
-    holes : keeper list from ≡ none → (k : ℕ) → k < len → place_of list (from + k) ≡ Hole
+    holes : keeper list from ≡ none → (k : ℕ) → k < len → place_of list (from + k) ≡ None
     holes h k l = place_hole list (from + k) (none_label list (from + k) (all k l ∙ label_none list from h))
 
     row_of : (i : ℕ) → keeper list from ≡ some i → (k : ℕ) → k < len
-        → place_of list (from + k) ≡ Stored (extent_at list i).volume (record { 0 = stored_at (extent_at list i) from + k })
+        → place_of list (from + k) ≡ Some ((extent_at list i).volume, record { 0 = stored_at (extent_at list i) from + k })
     row_of i h k l =
         let e = extent_at list i in
         let w = some_label list (from + k) i _ (all k l ∙ label_some list from i h) in

@@ -1,25 +1,40 @@
 -- The runs of a range one after the other: how many are left, and what the room holds. Assumes nothing.
-use Prim.Native.Nat.{ℕ, ◌+◌, ◌*◌, ◌≤◌}
+use Prim.Native.Nat.{ℕ, ◌+◌, ◌-◌, ◌*◌, ◌≤◌}
 use mathlib.Core.Path.{◌≡◌, refl, sym, ap, ◌∙◌}
-use mathlib.Core.Option.{Option, none, some}
+use mathlib.Core.Option.{Option as Found, none, some}
+use Rattle.std.specs.Prelude.{Option, None, Some}
+use Rattle.format.specs.declared.Physical.{Physical}
 use mathlib.Core.List.{List, [], ◌∷◌, ◌++◌, append_assoc, append-nil}
 use native.Mathlib.Nat.{zero-add}
 use native.Mathlib.Omega.{arith}
-use lib.ListN.{length, length-append}
-use lib.Seq.{sets, sets-eq}
+use lib.ListN.{length, drop, length-append}
+use lib.Seq.{drop-drop}
+use borrow.Rule.Slice.PartMut.{put_mid, post_of}
 use Rattle.number.specs.Number.{put}
 use Rattle.number.proofs.Put.{put_fits, put_nothing, put_next, length-put}
-use Rattle.runs.specs.declared.Run.{Run}
+use Rattle.runs.specs.declared.walk.Run.{Run}
 use Rattle.runs.specs.Positions.{keeper}
 use Rattle.runs.specs.inner.Computed.{run_lengths, five_for, run_numbers}
-use Rattle.runs.specs.inner.Steps.{FirstRun, numbers_of, numbers_from}
+use Rattle.runs.specs.inner.Steps.{FirstRun, numbers_of, numbers_with, numbers_from}
 use Rattle.runs.proofs.Meaning.{no_run}
 
--- numbers stored one by one
-pub put_sets : (new old : List ℕ) (at : ℕ) → at + length new ≤ length old → put old at new ≡ sets old at new
-put_sets new old at h = put_fits old at new h ∙ sym (sets-eq new old at h ∙ simp append_assoc)
+-- a run has five numbers, wherever it is stored
+with_five : (start len : ℕ) (source : Option (ℕ × Physical)) → length (numbers_with start len source) ≡ 5
+with_five start len None = refl
+with_five start len (Some source) = refl
 
-five_long : (list : List ℕ) (from len : ℕ) (o : Option ℕ) → length (five_for list from len o) ≡ 5
+pub run_five : (run : Run) → length (numbers_of run) ≡ 5
+run_five run = with_five run.start.0 run.len run.source
+
+-- five numbers in the place of five
+pub put_five : (old five : List ℕ) (at : ℕ) → length five ≡ 5 → at + 5 ≤ length old
+    → put_mid at (at + 5 - at) old five ≡ put old at five
+put_five old five at long fits =
+    let rest : post_of at (at + 5 - at) old ≡ drop (at + length five) old
+    = drop-drop (at + 5 - at) at old ∙ ap (λ (n : ℕ). drop n old) (omega arith) in
+    rw rest (sym (put_fits old at five (omega arith)))
+
+five_long : (list : List ℕ) (from len : ℕ) (o : Found ℕ) → length (five_for list from len o) ≡ 5
 five_long list from len none = refl
 five_long list from len (some i) = refl
 
@@ -70,6 +85,7 @@ module _ (list : List ℕ) where
             → Filling old new (at + run.len) (used + 5)
         fill_more run new w e =
             let five = numbers_of run in
+            let long = run_five run in
             let next = next_numbers at to run w in
             let left = fill_left in
             record {

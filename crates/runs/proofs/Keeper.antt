@@ -5,10 +5,12 @@ use mathlib.Core.Bool.{true, false}
 use mathlib.Core.Option.{none, some}
 use mathlib.Core.List.{List}
 use native.Mathlib.Omega.{arith}
-use lib.Dec.{ltb}
-use borrow.Author.Tests.{le-leb}
+use lib.ListN.{length}
+use Rattle.std.specs.List.{range_with_len, AllWithin, HoldsAt}
+use Rattle.std.proofs.lemmas.List.FromFn.{length-range_with_len}
+use Rattle.extent.proofs.Scans.{at_index}
 use Rattle.checks.proofs.Scan.{never, pair_false}
-use Rattle.checks.proofs.First.{option_cases, first_some, first_none, first_nowhere}
+use Rattle.checks.proofs.First.{option_cases, first_some, first_none, first_nowhere, first_hit}
 use Rattle.format.specs.declared.Physical.{Physical}
 use Rattle.extent.specs.Extents.{extent_at, extent_count}
 use Rattle.extent.specs.inner.Tests.{share_range, some_overlap}
@@ -16,10 +18,10 @@ use Rattle.extent.specs.inner.Ranges.{range_start, range_end}
 use Rattle.extent.proofs.Share.{position_share}
 use Rattle.extent.proofs.Ranges.{range_kept}
 use Rattle.order.proofs.Cases.{cases}
-use Rattle.runs.specs.declared.Place.TheVariants.{Hole, Stored}
+use Rattle.std.specs.Prelude.{Option, Some, None, MatchOption}
 use Rattle.runs.specs.Positions.{keeps, keeper}
 use Rattle.runs.specs.inner.Stored.{stored_at}
-use Rattle.runs.specs.inner.Answers.{place_of}
+use Rattle.runs.specs.inner.Answers.{IsKeeper, place_of}
 use Rattle.runs.proofs.Stored.{keeps_position, position_keeps, not_kept}
 
 -- an extent keeps the positions of its range
@@ -31,10 +33,6 @@ module _ (list : List ℕ) (i position : ℕ) where
       → keeps (extent_at list i) position ≡ false
   out_of_range h =
       not_kept (extent_at list i) position (λ k. let r = (range_kept list i position).0 k in h r.0 r.1)
-
-  pub range_test : range_start list i ≤ position → ltb position (range_end list i) ≡ keeps (extent_at list i) position
-  unfolding keeps range_start range_end
-  range_test l = rw (le-leb (range_start list i) position l)
 
 module _ (list : List ℕ) where
   -- what `keeper` says either way
@@ -52,6 +50,42 @@ module _ (list : List ℕ) where
       → keeper list position ≡ none
   unfolding keeper
   none_keeper position h = first_nowhere (λ i. keeps (extent_at list i) position) _ h
+
+  -- what a search for the first extent that keeps a position says either way
+  module _ (position : ℕ) where
+    abbrev numbers : List ℕ
+    numbers = range_with_len 0 (extent_count list)
+
+    abbrev IsOther : ℕ → Type 0
+    IsOther i = keeps (extent_at list i) position ≡ false
+
+    other_at : (n : ℕ) → n ≤ extent_count list → AllWithin IsOther numbers 0 n → (i : ℕ) → i < n → IsOther i
+    other_at n h others i l = rw (at_index (extent_count list) i 0 (omega arith)) at (others i 0 (omega arith) l)
+
+    search_none : AllWithin IsOther numbers 0 (length numbers) → keeper list position ≡ none
+    search_none others =
+        let len = length-range_with_len 0 (extent_count list) in
+        none_keeper position (other_at (extent_count list) (omega arith) (rw len at others))
+
+    search_some : (found : ℕ) → keeps (extent_at list found) position ≡ true
+        → (i : ℕ) × (i < length numbers) × HoldsAt (λ y. y ≡ found) numbers i × AllWithin IsOther numbers 0 i
+        → (found < extent_count list) × (keeper list position ≡ some found)
+    unfolding keeper
+    search_some found kept (i, l, here, others) =
+        let below : i < extent_count list = omega (arith, length-range_with_len 0 (extent_count list)) in
+        let same : i ≡ found = sym (at_index (extent_count list) i 0 below) ∙ here 0 in
+        let before = first_nowhere (λ j. keeps (extent_at list j) position) i (other_at i (omega arith) others) in
+        let first = first_hit (λ j. keeps (extent_at list j) position) (extent_count list) i below before (rw same kept) in
+        (omega arith, first ∙ ap some same)
+
+    pub search_is : (r : Option ℕ)
+        → MatchOption r (AllWithin IsOther numbers 0 (length numbers)) (λ found.
+        (keeps (extent_at list found) position ≡ true)
+        × (i : ℕ) × (i < length numbers) × HoldsAt (λ y. y ≡ found) numbers i × AllWithin IsOther numbers 0 i)
+        → IsKeeper list position r
+    search_is None others = search_none others
+    search_is (Some found) (kept, i, l, here, others) =
+        let s = search_some found kept (i, l, here, others) in (s.0, (kept, s.1))
 
   module _ (apart : some_overlap list ≡ false) where
     not_two : (i j position : ℕ) → i < j → j < extent_count list
@@ -81,19 +115,19 @@ module _ (list : List ℕ) where
         (λ j e. let f = keeper_some j position e in e ∙ ap some (one_keeper j i position f.0 l f.1 k))
 
   -- the answer of a lookup, by the keeper
-  pub place_hole : (position : ℕ) → keeper list position ≡ none → place_of list position ≡ Hole
+  pub place_hole : (position : ℕ) → keeper list position ≡ none → place_of list position ≡ None
   unfolding place_of
   place_hole position h = simp h
 
   place_stored : (i position : ℕ) → keeper list position ≡ some i
-      → place_of list position ≡ Stored (extent_at list i).volume (record { 0 = stored_at (extent_at list i) position })
+      → place_of list position ≡ Some ((extent_at list i).volume, record { 0 = stored_at (extent_at list i) position })
   unfolding place_of
   place_stored i position h = simp h
 
   pub place_is : (i position volume : ℕ) (offset : Physical) → keeper list position ≡ some i
       → volume ≡ (extent_at list i).volume → offset.0 ≡ stored_at (extent_at list i) position
-      → Stored volume offset ≡ place_of list position
+      → Some (volume, offset) ≡ place_of list position
   place_is i position volume offset h v o =
-      ap (λ (x : ℕ). Stored x offset) v
-      ∙ ap (λ (x : ℕ). Stored (extent_at list i).volume (record { 0 = x })) o
+      ap (λ (x : ℕ). Some (x, offset)) v
+      ∙ ap (λ (x : ℕ). Some ((extent_at list i).volume, record { 0 = x })) o
       ∙ sym (place_stored i position h)

@@ -4,7 +4,7 @@ pub mod Labels
 pub mod Meaning
 pub mod First
 pub mod Agree
-pub mod Walk
+pub mod Places
 pub mod Sort
 pub mod Fill
 pub mod Room

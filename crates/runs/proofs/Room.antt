@@ -7,7 +7,7 @@ use lib.ListN.{length}
 use borrow.Author.Tests.{le-leb, lt-leb}
 use Rattle.number.specs.Number.{put}
 use Rattle.number.proofs.Put.{put_past}
-use Rattle.runs.specs.declared.Counted.TheVariants.{Runs, RoomTooSmall}
+use Rattle.std.specs.Prelude.{Some, None}
 use Rattle.runs.specs.inner.Computed.{run_lengths, run_count, range_numbers}
 use Rattle.runs.specs.inner.Answers.{range_answer}
 use Rattle.runs.specs.inner.Steps.{numbers_from}
@@ -22,10 +22,7 @@ module _ (list : List ℕ) (size from to end runs : ℕ) (out : List ℕ)
 
   -- those that were counted are all, and there is room
   module _ (few : runs ≤ length out / 5) where
-    pub room_fits : 5 * length (run_lengths list from end) ≤ length out
-    room_fits = omega arith
-
-    pub answer_runs : Runs runs ≡ range_answer list size from to (length out)
+    pub answer_runs : Some runs ≡ range_answer list size from to (length out)
     unfolding range_answer
     answer_runs =
         let e : run_count list size from to ≡ runs = count_is ∙ omega arith in
@@ -41,7 +38,7 @@ module _ (list : List ℕ) (size from to end runs : ℕ) (out : List ℕ)
     too_many : length out < 5 * run_count list size from to
     too_many = rw count_is (omega arith)
 
-    pub answer_small : RoomTooSmall ≡ range_answer list size from to (length out)
+    pub answer_small : None ≡ range_answer list size from to (length out)
     unfolding range_answer
     answer_small = rw (lt-leb (5 * run_count list size from to) (length out) too_many)
 

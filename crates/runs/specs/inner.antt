@@ -1,4 +1,5 @@
 pub mod Answers
 pub mod Steps
+pub mod Order
 pub mod Computed
 pub mod Stored

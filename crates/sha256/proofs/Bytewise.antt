@@ -1,23 +1,23 @@
 -- Bytes fed one by one: few that do not fill the block, those that fill it, and whole blocks. Assumes nothing.
 use Prim.Native.Nat.{ℕ, zero, suc, ◌+◌, ◌-◌, ◌*◌, ◌/◌, ◌%◌, ◌≤◌, ◌<◌}
 use mathlib.Core.Path.{◌≡◌, refl, sym, ap, ap₂, ◌∙◌}
-use mathlib.Core.List.{List, [], ◌∷◌, foldl, foldl-append}
+use mathlib.Core.List.{List, [], ◌∷◌, ◌++◌, foldl, foldl-append}
 use native.Mathlib.Numerals.{unary_clauses}
-use native.Mathlib.Nat.{sub-zero}
 use native.Mathlib.Omega.{arith}
-use lib.ListN.{length, take, drop, set, length-set, length-drop, take-append-drop}
-use lib.Seq.{length-take-le, drop-drop}
+use lib.ListN.{length, get_or, take, drop, set, length-set, length-drop, take-append-drop}
+use lib.Seq.{length-take-le, take-add}
+use Rattle.std.specs.Simd.{first_chunks}
 use borrow.Author.Tests.{ne_eqb}
 use Rattle.number.specs.Number.{part, put}
-use Rattle.number.proofs.Parts.{part_onward}
-use Rattle.number.proofs.Put.{put_nothing, put-set, put_next, length-put}
-use Rattle.fips180.specs.Padding.{blocks}
+use Rattle.number.proofs.Parts.{length_part}
+use Rattle.number.proofs.Put.{put_nothing, put-set, put_next}
+use Rattle.fips180.specs.Padding.{parts}
 use Rattle.fips180.specs.Hash.{hashed}
 use Rattle.sha256.specs.Feeding.{feed_byte}
 use Rattle.fips180.specs.declared.Words.{Words}
 use Rattle.sha256.specs.declared.Digest.{Digest}
 use Rattle.sha256.proofs.Endian.{put_whole}
-use Rattle.fips180.proofs.Parts.{blocks_more, blocks_one}
+use Rattle.fips180.proofs.Parts.{length-parts, get_or-parts, chunks_parts}
 
 -- a state by its three parts
 abbrev pub state : Words → (fed : ℕ) (held : List ℕ) → Digest
@@ -84,30 +84,42 @@ block words fed held part l a h =
 pub in_two : (s : Digest) (n : ℕ) (part : List ℕ) → foldl feed_byte (foldl feed_byte s (take n part)) (drop n part) ≡ foldl feed_byte s part
 in_two s n part = sym (foldl-append feed_byte s (take n part) (drop n part)) ∙ ap (foldl feed_byte s) (take-append-drop n part)
 
--- whole blocks, so many: afterwards the last is held
-pub whole : (n : ℕ) (words : Words) (fed : ℕ) (held part : List ℕ) → length held ≡ 64 → fed % 64 ≡ 0 → length part ≡ 64 * suc n
-    → foldl feed_byte (state words fed held) part
-    ≡ state (foldl hashed words (blocks part)) (fed + length part) (drop (length part - 64) part)
-whole zero words fed held part l a h =
-    let long : length part ≡ 64 = omega arith in
-    let one : blocks part ≡ part ∷ [] = blocks_one part long in
-    let none : length part - 64 ≡ 0 = omega arith in
-    block words fed held part l a long ∙ rw (one, none, long)
+-- after whole blocks the last is held, or what was held where there is none
+last_part : (n : ℕ) (rest first held : List ℕ) → get_or (parts 64 n rest) (n - 1) first ≡ get_or (first ∷ parts 64 n rest) n held
+unfolding parts
+last_part zero rest first held = refl
+last_part (suc m) rest first held =
+    let e : suc m - 1 ≡ m = omega arith in
+    ap (λ (i : ℕ). get_or (parts 64 (suc m) rest) i first) e ∙ get_or-parts 64 (suc m) rest m first (omega arith)
+    ∙ sym (get_or-parts 64 (suc m) rest m held (omega arith))
+
+pub last-length : (n : ℕ) (part held : List ℕ) → length held ≡ 64 → 64 * n ≤ length part → length (get_or (parts 64 n part) (n - 1) held) ≡ 64
+unfolding parts
+last-length zero part held l h = l
+last-length (suc m) part held l h =
+    let e : suc m - 1 ≡ m = omega arith in
+    let fits : 64 * m + 64 ≤ length part = simp unary_clauses at h in
+    ap (λ (i : ℕ). length (get_or (parts 64 (suc m) part) i held)) e
+    ∙ ap length (get_or-parts 64 (suc m) part m held (omega arith)) ∙ length_part part (64 * m) 64 (omega arith)
+
+-- whole blocks, so many
+pub whole : (n : ℕ) (words : Words) (fed : ℕ) (held part : List ℕ) → length held ≡ 64 → fed % 64 ≡ 0 → 64 * n ≤ length part
+    → foldl feed_byte (state words fed held) (take (64 * n) part)
+    ≡ state (foldl hashed words (parts 64 n part)) (fed + 64 * n) (get_or (parts 64 n part) (n - 1) held)
+unfolding parts
+whole zero words fed held part l a h = ap (λ (n : ℕ). state words n held) (omega arith)
 whole (suc n) words fed held part l a h =
     let first : List ℕ = take 64 part in
     let rest : List ℕ = drop 64 part in
-    let more : length part ≡ 64 + (64 * suc n) = h ∙ simp unary_clauses (omega arith) in
+    let more : 64 * suc n ≡ 64 + 64 * n = simp unary_clauses (omega arith) in
+    let last : suc n - 1 ≡ n = omega arith in
     let long : length first ≡ 64 = length-take-le 64 part (omega arith) in
-    let left : length rest ≡ 64 * suc n = length-drop 64 part ∙ omega arith in
-    let at_least : 64 ≤ 64 * suc n = simp unary_clauses (omega arith) in
-    let last : 64 + (length rest - 64) ≡ length part - 64 = omega arith in
-    sym (in_two (state words fed held) 64 part)
-    ∙ ap (λ s. foldl feed_byte s rest) (block words fed held first l a long)
+    let left : 64 * n ≤ length rest = omega (arith, length-drop 64 part) in
+    ap (foldl feed_byte (state words fed held)) (ap (λ (k : ℕ). take k part) more ∙ take-add 64 (64 * n) part)
+    ∙ foldl-append feed_byte (state words fed held) first (take (64 * n) rest)
+    ∙ ap (λ s. foldl feed_byte s (take (64 * n) rest)) (block words fed held first l a long)
     ∙ whole n (hashed words first) (fed + 64) first rest long (omega arith) left
-    ∙ same_state
-    (ap (foldl hashed words) (sym (blocks_more part (omega arith))))
-    (omega arith)
-    (drop-drop (length rest - 64) 64 part ∙ ap (λ (i : ℕ). drop i part) last)
+    ∙ same_state refl (omega arith) (last_part n rest first held ∙ ap (λ (i : ℕ). get_or (first ∷ parts 64 n rest) i held) (sym last))
 
 -- how many bytes were fed
 pub fed_sum : (s : Digest) (bytes : List ℕ) → (foldl feed_byte s bytes).fed ≡ s.fed + length bytes
@@ -122,40 +134,42 @@ pub made_few : (s : Digest) (bytes held : List ℕ) (used : ℕ) → length s.he
 made_few s bytes held used l h u e =
     same_state refl refl (e ∙ ap (λ (n : ℕ). put s.held n bytes) u) ∙ sym (few s.words s.fed s.held bytes l h)
 
-pub made_full : (s : Digest) (bytes held : List ℕ) (used : ℕ) (words : Words) → length s.held ≡ 64 → 0 < length bytes
-    → s.fed % 64 + length bytes ≡ 64 → used ≡ s.fed % 64 → held ≡ put s.held used bytes → words ≡ foldl hashed s.words (blocks held)
+pub made_full : (s : Digest) (bytes held : List ℕ) (used : ℕ) (words : Words) (blocks : List (List ℕ)) → length s.held ≡ 64 → 0 < length bytes
+    → s.fed % 64 + length bytes ≡ 64 → used ≡ s.fed % 64 → held ≡ put s.held used bytes → blocks ≡ held ∷ [] → words ≡ foldl hashed s.words blocks
     → state words (s.fed + length bytes) held ≡ foldl feed_byte s bytes
-made_full s bytes held used words l p h u e w =
+made_full s bytes held used words blocks l p h u e b w =
     let there : held ≡ put s.held (s.fed % 64) bytes = e ∙ ap (λ (n : ℕ). put s.held n bytes) u in
-    let long : length held ≡ 64 = ap length there ∙ length-put s.held (s.fed % 64) bytes ∙ l in
-    same_state (w ∙ ap (foldl hashed s.words) (blocks_one held long) ∙ ap (hashed s.words) there) refl there
-    ∙ sym (full s.words s.fed s.held bytes l p h)
+    same_state (w ∙ ap (foldl hashed s.words) b ∙ ap (hashed s.words) there) refl there ∙ sym (full s.words s.fed s.held bytes l p h)
 
-pub made_whole : (s : Digest) (bytes held : List ℕ) (words : Words) → length s.held ≡ 64 → s.fed % 64 ≡ 0 → 0 < length bytes
-    → length bytes % 64 ≡ 0 → held ≡ put s.held 0 (part bytes (length bytes - 64) (length bytes - (length bytes - 64)))
-    → words ≡ foldl hashed s.words (blocks bytes) → state words (s.fed + length bytes) held ≡ foldl feed_byte s bytes
-made_whole s bytes held words l a p h e w =
-    let count : length bytes ≡ 64 * suc (length bytes / 64 - 1) = simp unary_clauses (omega arith) in
-    let last : List ℕ = drop (length bytes - 64) bytes in
-    let long : length last ≡ 64 = length-drop (length bytes - 64) bytes ∙ omega arith in
-    let there : held ≡ last
-    = e ∙ ap (put s.held 0) (part_onward bytes (length bytes - 64)) ∙ put_whole s.held last (long ∙ sym l) in
-    same_state w refl there ∙ sym (whole (length bytes / 64 - 1) s.words s.fed s.held bytes l a count)
+pub made_aligned : (s : Digest) (bytes rest last held : List ℕ) (words : Words) (blocks : List (List ℕ)) → length s.held ≡ 64 → s.fed % 64 ≡ 0
+    → blocks ≡ first_chunks 64 (length bytes / 64) bytes → rest ≡ drop (length bytes / 64 * 64) bytes → words ≡ foldl hashed s.words blocks
+    → last ≡ get_or blocks (length blocks - 1) s.held → held ≡ put last 0 rest → state words (s.fed + length bytes) held ≡ foldl feed_byte s bytes
+made_aligned s bytes rest last held words blocks l a b r w e f =
+    let n : ℕ = length bytes / 64 in
+    let there : blocks ≡ parts 64 n bytes = b ∙ chunks_parts 64 n bytes in
+    let count : length blocks ≡ n = ap length there ∙ length-parts 64 n bytes in
+    let fits : 64 * n ≤ length bytes = omega arith in
+    let turned : n * 64 ≡ 64 * n = omega arith in
+    let left : rest ≡ drop (64 * n) bytes = r ∙ ap (λ (k : ℕ). drop k bytes) turned in
+    let few_left : length rest ≡ length bytes - 64 * n = ap length left ∙ length-drop (64 * n) bytes in
+    let after : List ℕ = get_or (parts 64 n bytes) (n - 1) s.held in
+    let same : last ≡ after = e ∙ ap₂ (λ (list : List (List ℕ)) (k : ℕ). get_or list (k - 1) s.held) there count in
+    let start : (s.fed + 64 * n) % 64 ≡ 0 = omega arith in
+    same_state
+    (w ∙ ap (foldl hashed s.words) there)
+    (omega arith)
+    (f ∙ ap₂ (λ (old : List ℕ) (at : ℕ). put old at rest) same (sym start))
+    ∙ sym
+    (few (foldl hashed s.words (parts 64 n bytes)) (s.fed + 64 * n) after rest (last-length n bytes s.held l fits) (omega arith))
+    ∙ ap₂ (foldl feed_byte) (sym (whole n s.words s.fed s.held bytes l a fits)) left
+    ∙ in_two s (64 * n) bytes
 
 -- One function after another: the first bytes, and then the others.
 
-pub fed_after : (s middle : Digest) (n : ℕ) (bytes : List ℕ) → n ≤ length bytes → middle ≡ foldl feed_byte s (part bytes 0 (n - 0))
-    → middle.fed ≡ s.fed + n
-fed_after s middle n bytes h e =
-    ap (λ (d : Digest). d.fed) e ∙ fed_sum s (part bytes 0 (n - 0))
-    ∙ ap (λ (k : ℕ). s.fed + k) (ap (λ (k : ℕ). length (take k bytes)) (sub-zero n) ∙ length-take-le n bytes h)
+pub fed_after : (s middle : Digest) (first : List ℕ) → middle ≡ foldl feed_byte s first → middle.fed ≡ s.fed + length first
+fed_after s middle first e = ap (λ (d : Digest). d.fed) e ∙ fed_sum s first
 
-pub length-others : (n : ℕ) (bytes : List ℕ) → length (part bytes n (length bytes - n)) ≡ length bytes - n
-length-others n bytes = ap length (part_onward bytes n) ∙ length-drop n bytes
-
-pub made_in_two : (s middle last : Digest) (n : ℕ) (bytes : List ℕ) → middle ≡ foldl feed_byte s (part bytes 0 (n - 0))
-    → last ≡ foldl feed_byte middle (part bytes n (length bytes - n)) → last ≡ foldl feed_byte s bytes
-made_in_two s middle last n bytes e f =
-    f
-    ∙ ap₂ (foldl feed_byte) (e ∙ ap (λ (k : ℕ). foldl feed_byte s (take k bytes)) (sub-zero n)) (part_onward bytes n)
-    ∙ in_two s n bytes
+pub made_in_two : (s middle last : Digest) (first rest bytes : List ℕ) → bytes ≡ first ++ rest → middle ≡ foldl feed_byte s first
+    → last ≡ foldl feed_byte middle rest → last ≡ foldl feed_byte s bytes
+made_in_two s middle last first rest bytes b e f =
+    f ∙ ap (λ m. foldl feed_byte m rest) e ∙ sym (foldl-append feed_byte s first rest) ∙ ap (foldl feed_byte s) (sym b)

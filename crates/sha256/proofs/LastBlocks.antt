@@ -1,28 +1,23 @@
 -- What the last block or two hold. Assumes nothing.
-use Prim.Native.Nat.{ℕ, ◌+◌, ◌-◌, ◌*◌, ◌%◌, ◌≤◌}
+use Prim.Native.Nat.{ℕ, ◌+◌, ◌-◌, ◌*◌, ◌%◌, ◌^◌, ◌≤◌}
 use mathlib.Core.Path.{◌≡◌, refl, sym, ap, ap₂, ◌∙◌}
 use mathlib.Core.List.{List, [], ◌∷◌, ◌++◌, append_assoc}
-use native.Mathlib.Nat.{zero-add, sub-zero}
+use native.Mathlib.Nat.{zero-add}
 use native.Mathlib.Omega.{arith}
-use lib.ListN.{length, take, drop, replicate, length-append, length-replicate, replicate-append-replicate}
-use lib.Seq.{drop_at, length-take-le}
-use Rattle.number.specs.Number.{le_bytes, part, put}
-use Rattle.number.proofs.Put.{put_fits, put_next, part_put, length-put}
+use lib.ListN.{length, take, drop, set, replicate, length-set, length-append, length-replicate, replicate-append-replicate}
+use lib.Seq.{length-take-le}
+use Rattle.std.proofs.lemmas.List.{drop-replicate}
+use borrow.Rule.Slice.PartMut.{put_mid}
+use Rattle.std.specs.Int.{bytes_high_first}
+use Rattle.number.specs.Number.{put}
+use Rattle.sha256.proofs.Endian.{high_first, lowest_eight, part_written}
+use Rattle.number.proofs.Put.{put_fits, put_next, part_put, length-put, put-set}
 use Rattle.fips180.specs.Padding.{be_bytes, zero_bytes, padding}
 use Rattle.fips180.proofs.DigestSize.{length-be_bytes}
 
 -- so many zeros
 abbrev zeros : ℕ → List ℕ
 zeros n = replicate n 0
-
-drop-zeros : (n m : ℕ) → n ≤ m → drop n (zeros m) ≡ zeros (m - n)
-drop-zeros n m h =
-    let split : zeros m ≡ zeros n ++ zeros (m - n)
-    = ap zeros (sum n m h) ∙ sym (replicate-append-replicate n (m - n) 0) in
-    ap (drop n) split ∙ drop_at (zeros n) (zeros (m - n)) n (length-replicate n 0)
-  where
-    sum : (n m : ℕ) → n ≤ m → m ≡ n + (m - n)
-    sum n m h = omega arith
 
 -- bytes laid over zeros are the same bytes with some of these zeros
 with_zeros : (m n : ℕ) (bytes : List ℕ) → length bytes + n ≤ m → put (zeros m) 0 bytes ≡ put (zeros m) 0 (bytes ++ zeros n)
@@ -32,9 +27,9 @@ with_zeros m n bytes h =
     let more : length (bytes ++ zeros n) ≡ k + n = length-append bytes (zeros n) ∙ ap (λ (z : ℕ). k + z) (length-replicate n 0) in
     let rest : m - k ≡ n + (m - (k + n)) = omega arith in
     let here : drop (0 + k) (zeros m) ≡ zeros (m - k)
-    = ap (λ (i : ℕ). drop i (zeros m)) (zero-add k) ∙ drop-zeros k m (omega arith) in
+    = ap (λ (i : ℕ). drop i (zeros m)) (zero-add k) ∙ drop-replicate k m 0 in
     let there : drop (0 + length (bytes ++ zeros n)) (zeros m) ≡ zeros (m - (k + n))
-    = ap (λ (i : ℕ). drop i (zeros m)) (zero-add (length (bytes ++ zeros n)) ∙ more) ∙ drop-zeros (k + n) m h in
+    = ap (λ (i : ℕ). drop i (zeros m)) (zero-add (length (bytes ++ zeros n)) ∙ more) ∙ drop-replicate (k + n) m 0 in
     put_fits (zeros m) 0 bytes (omega arith)
     ∙ ap (λ (after : List ℕ). bytes ++ after) (here ∙ ap zeros rest ∙ sym (replicate-append-replicate n (m - (k + n)) 0))
     ∙ sym (append_assoc bytes (zeros n) (zeros (m - (k + n))))
@@ -70,19 +65,18 @@ same_zeros fed = ap (λ (n : ℕ). (119 - n) % 64) (twice fed)
 two_blocks : (fed : ℕ) → fed % 64 + 1 + zero_bytes fed + 8 ≤ 128
 two_blocks fed = omega arith
 
-before_last : (len used zeros at count : ℕ) → len ≡ used + (9 + zeros) → used ≡ at → zeros ≡ count → len - 8 ≡ at + 1 + count
-before_last len used zeros at count e f g = omega arith
+before_last : (len used more at count : ℕ) → len ≡ used + (9 + more) → used ≡ at → more ≡ count → len - 8 ≡ at + 1 + count
+before_last len used more at count e f g = omega arith
 
-with_last : (used zeros at count last : ℕ) → used ≡ at → zeros ≡ count → last ≡ 8 → used + (9 + zeros) ≡ at + 1 + count + last
-with_last used zeros at count last e f g = omega arith
+with_last : (used more at count last : ℕ) → used ≡ at → more ≡ count → last ≡ 8 → used + (9 + more) ≡ at + 1 + count + last
+with_last used more at count last e f g = omega arith
 
 -- the same for the last bytes of a message, by what each write left
-pub last_block : (held : List ℕ) (fed used len : ℕ) {start bytes s t u : List ℕ} → length held ≡ 64 → start ≡ zeros 128
-    → used ≡ fed % 64 → len ≡ used + (9 + zero_bytes used) → bytes ≡ part held 0 used → s ≡ put start 0 bytes
-    → t ≡ put s used (le_bytes 1 0x80) → u ≡ put t (len - 8) (be_bytes 8 (8 * fed))
-    → (length u ≡ 128) × (take (fed % 64 + (9 + zero_bytes (fed % 64))) u ≡ take (fed % 64) held ++ padding fed)
-unfolding le_bytes padding
-last_block held fed used len {start} {bytes} {s} {t} {u} l z i n e f g h =
+last_block : (held : List ℕ) (fed used len : ℕ) {bytes s t u : List ℕ} → length held ≡ 64 → used ≡ fed % 64
+    → len ≡ used + (9 + zero_bytes used) → bytes ≡ take used held → s ≡ put (zeros 128) 0 bytes → t ≡ put s used (0x80 ∷ [])
+    → u ≡ put t (len - 8) (be_bytes 8 (8 * fed)) → take (fed % 64 + (9 + zero_bytes (fed % 64))) u ≡ take (fed % 64) held ++ padding fed
+unfolding padding
+last_block held fed used len {bytes} {s} {t} {u} l i n e f g h =
     let last : List ℕ = be_bytes 8 (8 * fed) in
     let eight : length last ≡ 8 = length-be_bytes 8 (8 * fed) in
     let there : bytes ≡ take (fed % 64) held = e ∙ ap (λ (k : ℕ). take k held) i in
@@ -94,17 +88,31 @@ last_block held fed used len {start} {bytes} {s} {t} {u} l z i n e f g h =
     = with_last (fed % 64) (zero_bytes (fed % 64)) _ _ _ (sym long) (same_zeros fed) eight in
     let fits : length bytes + 1 + zero_bytes fed + length last ≤ 128
     = rw (long, eight) (two_blocks fed) in
-    let wide : length u ≡ 128
-    = ap length h ∙ length-put t (len - 8) last ∙ ap length g ∙ length-put s used (0x80 ∷ []) ∙ ap length f ∙ length-put start 0 bytes ∙ ap length z in (
-      wide,
-      ap (λ (k : ℕ). take k u) all
-          ∙ padded_last 128 (zero_bytes fed) 0x80 bytes last fits (f ∙ ap (λ (o : List ℕ). put o 0 bytes) z)
-          (g ∙ ap (λ (k : ℕ). put s k (0x80 ∷ [])) at) (h ∙ ap (λ (k : ℕ). put t k last) end)
-          ∙ ap (λ (front : List ℕ). front ++ (0x80 ∷ (zeros (zero_bytes fed) ++ last))) there,
-    )
+    ap (λ (k : ℕ). take k u) all
+    ∙ padded_last 128 (zero_bytes fed) 0x80 bytes last fits f (g ∙ ap (λ (k : ℕ). put s k (0x80 ∷ [])) at) (h ∙ ap (λ (k : ℕ). put t k last) end)
+    ∙ ap (λ (front : List ℕ). front ++ (0x80 ∷ (zeros (zero_bytes fed) ++ last))) there
+
+-- the three parts that are written one after the other
+pub padded_by : (held first last : List ℕ) (fed used end : ℕ) → length held ≡ 64 → used ≡ fed % 64 → end ≡ used + (9 + zero_bytes used)
+    → first ≡ take used held → last ≡ bytes_high_first 8 (fed * 8 % 2 ^ 64)
+    → take (fed % 64 + (9 + zero_bytes (fed % 64))) (put_mid (end - 8) (end - (end - 8)) (set (put_mid 0 used (zeros 128) first) used 0x80) last)
+    ≡ take (fed % 64) held ++ padding fed
+padded_by held first last fed used end l i n e f =
+    let room : length (zeros 128) ≡ 128 = length-replicate {A = ℕ} 128 0 in
+    let long : length first ≡ used = ap length e ∙ length-take-le used held (omega arith) in
+    let eight : last ≡ be_bytes 8 (8 * fed)
+    = f ∙ lowest_eight (fed * 8) ∙ high_first 8 (fed * 8) ∙ ap (be_bytes 8) (omega arith) in
+    let wide : length last ≡ end - (end - 8) = ap length eight ∙ length-be_bytes 8 (8 * fed) ∙ omega arith in
+    let begun : List ℕ = put_mid 0 used (zeros 128) first in
+    let one : begun ≡ put (zeros 128) 0 first = part_written (zeros 128) 0 used first long (omega arith) in
+    let kept : length begun ≡ 128 = ap length one ∙ length-put (zeros 128) 0 first ∙ room in
+    let marked : List ℕ = set begun used 0x80 in
+    let kept2 : length marked ≡ 128 = length-set begun used 0x80 ∙ kept in
+    last_block held fed used end l i n e one (put-set begun used 0x80 (omega arith))
+    (part_written marked (end - 8) (end - (end - 8)) last wide (omega arith) ∙ ap (put marked (end - 8)) eight)
 
 -- the part of the last bytes that is hashed
 pub part_padded : (fed used len : ℕ) (bytes padded : List ℕ) → used ≡ fed % 64 → len ≡ used + (9 + zero_bytes used)
-    → take (fed % 64 + (9 + zero_bytes (fed % 64))) bytes ≡ padded → part bytes 0 (len - 0) ≡ padded
+    → take (fed % 64 + (9 + zero_bytes (fed % 64))) bytes ≡ padded → take len bytes ≡ padded
 part_padded fed used len bytes padded i n e =
-    ap (λ (k : ℕ). take k bytes) (sub-zero len ∙ n ∙ ap (λ (k : ℕ). k + (9 + zero_bytes k)) i) ∙ e
+    ap (λ (k : ℕ). take k bytes) (n ∙ ap (λ (k : ℕ). k + (9 + zero_bytes k)) i) ∙ e

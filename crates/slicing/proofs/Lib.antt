@@ -2,6 +2,6 @@ pub mod Xor
 pub mod Zeros
 pub mod Linear
 pub mod Values
-pub mod Rows
+pub mod Entries
 pub mod Sliced
 pub mod Turns

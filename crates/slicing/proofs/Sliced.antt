@@ -6,6 +6,7 @@ use native.Mathlib.Omega.{arith}
 use lib.ListN.{length, get_or, take, drop, take-append-drop, length-drop}
 use lib.Seq.{drop-drop, take_all}
 use lib.Bits.{bit_xor}
+use Rattle.std.specs.Int.{to_le_bytes, w32}
 use Rattle.slicing.specs.inner.Slicing.{step, zeros, values, Linear}
 use Rattle.slicing.proofs.Zeros.{zeros_add, zeros_xor, fold_xor, fold_apart}
 use Rattle.slicing.proofs.Linear.{step_byte, step_xor}
@@ -67,6 +68,25 @@ module _ {row : List ℕ} (linear : Linear row) where
       ∙ ap₂ bit_xor
       (ap₂ bit_xor (ap₂ bit_xor (moved_past_none row k u3) (sym (zeros_add (step row) k 1 u2))) (sym (zeros_add (step row) k 2 u1)))
       (sym (zeros_add (step row) k 3 u0))
+
+  -- The same by the register's bytes.
+  pub four_by_bytes : (s digits : List ℕ) (k r a b c d : ℕ) → digits ≡ to_le_bytes w32 r → length s ≡ 4
+      → ((i : ℕ) → get_or s i 0 < 256) → r < 2 ^ 32
+      → d ≡ zeros (step row) k (get_or row (bit_xor (get_or digits 3 0) (get_or s 3 0)) 0)
+      → c ≡ zeros (step row) (k + 1) (get_or row (bit_xor (get_or digits 2 0) (get_or s 2 0)) 0)
+      → b ≡ zeros (step row) (k + 2) (get_or row (bit_xor (get_or digits 1 0) (get_or s 1 0)) 0)
+      → a ≡ zeros (step row) (k + 3) (get_or row (bit_xor (get_or digits 0 0) (get_or s 0 0)) 0)
+      → bit_xor (bit_xor (bit_xor d c) b) a ≡ zeros (step row) k (foldl (step row) r s)
+  four_by_bytes s digits k r a b c d shown long small fits ed ec eb ea =
+      let met : (j i n : ℕ) → n % 256 ≡ get_or (to_le_bytes w32 r) i 0
+      → zeros (step row) j (get_or row (bit_xor (get_or digits i 0) (get_or s i 0)) 0) ≡ zeros (step row) j (chosen row n (get_or s i 0))
+      = λ j i n e. ap (λ (x : ℕ). zeros (step row) j (get_or row (bit_xor x (get_or s i 0)) 0)) (ap (λ (l : List ℕ). get_or l i 0) shown ∙ sym e) in
+      ap₂ bit_xor
+      (ap₂ bit_xor
+      (ap₂ bit_xor (ed ∙ met k 3 (r / 256 / 256 / 256) (omega arith)) (ec ∙ met (k + 1) 2 (r / 256 / 256) (omega arith)))
+      (eb ∙ met (k + 2) 1 (r / 256) (omega arith)))
+      (ea ∙ met (k + 3) 0 r refl)
+      ∙ sym (four_bytes s k r long small fits)
 
   -- the first n bytes, moved past the others, and the others by themselves
   cut : (n : ℕ) (s : List ℕ) (r : ℕ)

@@ -1,24 +1,37 @@
--- A loop that takes some of the bytes a turn: before each turn `current` is what the step makes of those before place i.
--- Holds of any step. Assumes nothing.
-use Prim.Native.Nat.{ℕ, ◌+◌, ◌-◌, ◌≤◌, ◌<◌}
-use mathlib.Core.Path.{◌≡◌, sym, ap, ap₂, ◌∙◌}
-use mathlib.Core.List.{List, foldl, foldl-append}
-use native.Mathlib.Numerals.{add-one}
-use native.Mathlib.Omega.{arith}
-use lib.ListN.{length, get_or, take, drop, take-append-drop, length-drop}
-use lib.Seq.{take-suc, take-add, take_all}
+-- A list taken some elements at a time: first whole chunks of them, and then what is left. Holds of any step. Assumes nothing.
+use Prim.Native.Nat.{ℕ, zero, suc, ◌*◌, ◌/◌}
+use mathlib.Core.Path.{◌≡◌, refl, sym, ap, ap₂, ◌∙◌}
+use mathlib.Core.List.{List, [], ◌∷◌, foldl, foldl-append}
+use native.Mathlib.Nat.{suc-mul, zero-mul, add_comm}
+use lib.ListN.{length, take, drop, take-append-drop}
+use lib.Seq.{drop-drop}
+use Rattle.std.specs.List.{fold}
+use Rattle.std.specs.Simd.{first_chunks}
 
-module _ (f : ℕ → ℕ → ℕ) (bytes : List ℕ) (start current next i : ℕ) (so_far : current ≡ foldl f start (take i bytes)) where
-  pub one_more : i < length bytes → next ≡ f current (get_or bytes i 0) → next ≡ foldl f start (take (i + 1) bytes)
-  one_more h e = rw (add-one, take-suc bytes i 0, foldl-append) (e ∙ ap (λ (x : ℕ). f x (get_or bytes i 0)) so_far)
+module _ (f : ℕ → ℕ → ℕ) where
+  pub one_by_one : (bytes : List ℕ) (start : ℕ) → fold f start bytes ≡ foldl f start bytes
+  one_by_one [] start = refl
+  one_by_one (byte ∷ bytes) start = one_by_one bytes (f start byte)
 
-  pub some_more : (n : ℕ) → next ≡ foldl f current (take (i + n - i) (drop i bytes)) → next ≡ foldl f start (take (i + n) bytes)
-  some_more n e =
-      let count : i + n - i ≡ n = omega arith in
-      rw (take-add, foldl-append) ((rw count at e) ∙ ap (λ (x : ℕ). foldl f x (take n (drop i bytes))) so_far)
+  pub chunk_by_chunk : (n k : ℕ) (bytes : List ℕ) (start : ℕ)
+      → foldl f (fold (foldl f) start (first_chunks n k bytes)) (drop (k * n) bytes) ≡ foldl f start bytes
+  chunk_by_chunk n zero bytes start = rw zero-mul
+  chunk_by_chunk n (suc k) bytes start =
+      rw (suc-mul, add_comm (k * n) n, ← drop-drop (k * n) n bytes)
+      (chunk_by_chunk n k (drop n bytes) (foldl f start (take n bytes))
+      ∙ sym (foldl-append f start (take n bytes) (drop n bytes)) ∙ ap (foldl f start) (take-append-drop n bytes))
 
-  pub the_rest : next ≡ foldl f current (take (length bytes - i) (drop i bytes)) → next ≡ foldl f start bytes
-  the_rest e =
-      let left : length (drop i bytes) ≤ length bytes - i = simp length-drop (omega arith) in
-      e ∙ ap₂ (foldl f) so_far (take_all (length bytes - i) (drop i bytes) left)
-      ∙ sym (foldl-append f start (take i bytes) (drop i bytes)) ∙ ap (foldl f start) (take-append-drop i bytes)
+  -- Chunks that are taken from the beginning on, and then what is left.
+  pub in_turns : (n k : ℕ) (bytes left : List ℕ) (chunks : List (List ℕ)) (start current last : ℕ)
+      → chunks ≡ first_chunks n k bytes → left ≡ drop (k * n) bytes
+      → current ≡ fold (foldl f) start chunks → last ≡ foldl f current left → last ≡ foldl f start bytes
+  in_turns n k bytes left chunks start current last cut rest e last_e =
+      last_e ∙ ap₂ (foldl f) (e ∙ ap (fold (foldl f) start) cut) rest ∙ chunk_by_chunk n k bytes start
+
+-- The four chunks of sixteen bytes.
+pub quarters : (s : List ℕ) (chunks : List (List ℕ)) → length s ≡ 16 → chunks ≡ first_chunks 4 (length s / 4) s
+    → chunks ≡ take 4 s ∷ take 4 (drop 4 s) ∷ take 4 (drop 8 s) ∷ take 4 (drop 12 s) ∷ []
+quarters s chunks e cut =
+    rw (cut, e)
+    (ap₂ (λ (a b : List ℕ). take 4 s ∷ take 4 (drop 4 s) ∷ take 4 a ∷ take 4 b ∷ [])
+    (drop-drop 4 4 s) (ap (drop 4) (drop-drop 4 4 s) ∙ drop-drop 4 8 s))

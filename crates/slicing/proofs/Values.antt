@@ -30,9 +30,6 @@ pub record Filling (f : ℕ → ℕ) (size : ℕ) (list : List ℕ) (count : ℕ
   pub done : (k : ℕ) → k < count → get_or list k 0 ≡ f k
 
 module _ (f : ℕ → ℕ) (n : ℕ) (l : List ℕ) where
-  pub filling_start : length l ≡ n → Filling f n l 0
-  filling_start e = record { long = e; done = λ k h. absurd (not-suc-le-zero h) }
-
   pub filling_more : (i v : ℕ) → Filling f n l i → i < n → v ≡ f i → Filling f n (set l i v) (i + 1)
   filling_more i v so_far h e =
       let within : i < length l = omega (arith, so_far.long) in

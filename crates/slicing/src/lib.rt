@@ -1,67 +1,88 @@
 // A checksum's register over many bytes, sixteen at a time, by sixteen rows of entries: slicing by 16.
 //
-// It knows no polynomial: the caller writes the first row, `fill_rows` makes the fifteen others from it, and `run` takes
-// bytes by them. The rows are lent, since an array of constants would be built anew at every use. Both calls are internal:
-// `run` requires rows that are filled from a linear row (specs/inner/Slicing.antt). They are meant for the crate crc32.
+// It knows no polynomial: the caller gives the first row, `Rows::new` makes the fifteen others from it, and `run` takes
+// bytes by them. A value of the type is lent, since an array of constants would be built anew at every use. Both calls are
+// internal: `new` requires a linear row (specs/inner/Slicing.antt). They are meant for the crate crc32.
 #![tactic(auto)]
 
 ghost use Rattle.std.specs.Prelude.{◌≡◌, ◌≤◌, ◌<◌, length, get_or};
 ghost use mathlib.Core.List.{foldl};
-ghost use Rattle.slicing.specs.inner.Slicing.{step, zeros, rows_from, first_row, Rows};
+ghost use Rattle.slicing.specs.inner.Slicing.{step, zeros, first_row, Linear, Rows};
 
-// Internal: fills the fifteen rows after the first. An entry has one zero byte more after it than the entry that stands a
-// row before it, so it is a step away from that one.
-pub fn fill_rows(rows: &mut [u32])
-    requires { length rows.old ≡ 4096 }
-    ensures { rows.new ≡ rows_from (first_row rows.old) }
-{
-    let mut i: usize = 256;
-    while i < 4096 {
-        rows[i] = byte_step(rows, rows[i - 256], 0);
-        i += 1;
-    }
+// Sixteen rows of 256 entries: a linear one, and the fifteen that follow from it. The entries are public for contracts to name.
+#[derive(Drop)]
+pub struct Rows {
+    pub entries: [u32; 4096],
+    ghost filled: { Rows entries },
 }
 
-// Internal: the register after the bytes. Sixteen are taken at a time as long as so many are left.
-pub fn run(rows: &[u32], register: u32, bytes: &[u8]) -> u32
-    requires { Rows rows.now }
-    ensures { result ≡ foldl (step (first_row rows.now)) register bytes.now }
-{
-    let mut current = register;
-    let mut i = 0;
-    while 16 <= bytes.len() - i {
-        current = block(rows, current, &bytes[i..i + 16]);
-        i += 16;
+impl Rows {
+    // Internal: the rows of a first one. An entry has one zero byte more after it than the entry that stands a row before
+    // it, so it is a step away from that one.
+    pub fn new(row: &[u32; 256]) -> Rows
+        requires { Linear row.now }
+        ensures { first_row result.entries ≡ row.now }
+    {
+        let mut entries = [0u32; 4096];
+        entries[..256].copy_from_slice(row);
+        // By an index: the entries read and written are parts of one array, which no iterator lends twice.
+        for i in 256usize..4096 {
+            entries[i] = byte_step(row, entries[i - 256], 0);
+        }
+        Rows { entries }
     }
-    wordwise(rows, current, &bytes[i..])
-}
 
-// The register after the bytes. Four are taken at a time as long as so many are left.
-fn wordwise(rows: &[u32], register: u32, bytes: &[u8]) -> u32
-    requires { Rows rows.now }
-    ensures { result ≡ foldl (step (first_row rows.now)) register bytes.now }
-{
-    let mut current = register;
-    let mut i = 0;
-    while 4 <= bytes.len() - i {
-        current = word(rows, 0, current, &bytes[i..i + 4]);
-        i += 4;
+    // Internal: the register after the bytes. Sixteen are taken at a time as long as so many are left, and then four.
+    pub fn run(&self, register: u32, bytes: &[u8]) -> u32
+        ensures { result ≡ foldl (step (first_row self.now.entries)) register bytes.now }
+    {
+        let (blocks, left) = bytes.as_chunks::<16>();
+        let (words, last) = left.as_chunks::<4>();
+        let current = blocks
+            .iter()
+            .fold(register, |current, block| self.block(current, block));
+        let current = words
+            .iter()
+            .fold(current, |current, word| self.word(0, current, word));
+        last.iter().fold(
+            current,
+            |current, byte| byte_step(&self.entries, current, *byte),
+        )
     }
-    bytewise(rows, current, &bytes[i..])
-}
 
-// The register after the bytes, one at a time by the first row.
-fn bytewise(rows: &[u32], register: u32, bytes: &[u8]) -> u32
-    requires { 256 ≤ length rows.now }
-    ensures { result ≡ foldl (step (first_row rows.now)) register bytes.now }
-{
-    let mut current = register;
-    let mut i = 0;
-    while i < bytes.len() {
-        current = byte_step(rows, current, bytes[i]);
-        i += 1;
+    // The register after sixteen bytes. The first four use the register up, so the others are taken from a register of
+    // zero.
+    fn block(&self, register: u32, bytes: &[u8; 16]) -> u32
+        ensures { result ≡ foldl (step (first_row self.now.entries)) register bytes.now }
+    {
+        let (words, _) = bytes.as_chunks::<4>();
+        self.word(0, 0, &words[3])
+            ^ self.word(4, 0, &words[2])
+            ^ self.word(8, 0, &words[1])
+            ^ self.word(12, register, &words[0])
     }
-    current
+
+    // The register after four bytes and a number of zero bytes. Each byte of the message meets one byte of the register.
+    fn word(&self, after: usize, register: u32, bytes: &[u8; 4]) -> u32
+        requires { after ≤ 12 }
+        ensures { result
+            ≡ zeros (step (first_row self.now.entries)) after (foldl (step (first_row self.now.entries)) register bytes.now) }
+    {
+        let [first, second, third, fourth] = register.to_le_bytes();
+        self.look(after, fourth ^ bytes[3])
+            ^ self.look(after + 1, third ^ bytes[2])
+            ^ self.look(after + 2, second ^ bytes[1])
+            ^ self.look(after + 3, first ^ bytes[0])
+    }
+
+    // What a byte and a number of zero bytes after it make of a register of zero.
+    fn look(&self, after: usize, byte: u8) -> u32
+        requires { after < 16 }
+        ensures { result
+            ≡ zeros (step (first_row self.now.entries)) after (get_or (first_row self.now.entries) byte 0) }
+    {
+        self.entries[after * 256 + byte as usize]
+    }
 }
 
 // The register after a byte, by the first row.
@@ -70,38 +91,4 @@ fn byte_step(rows: &[u32], register: u32, byte: u8) -> u32
     ensures { result ≡ step (first_row rows.now) register byte }
 {
     (register / 256) ^ rows[((register ^ byte as u32) % 256) as usize]
-}
-
-// The register after sixteen bytes. The first four use the register up, so the others are taken from a register of zero.
-fn block(rows: &[u32], register: u32, bytes: &[u8]) -> u32
-    requires { (Rows rows.now) × (length bytes.now ≡ 16) }
-    ensures { result ≡ foldl (step (first_row rows.now)) register bytes.now }
-{
-    word(rows, 0, 0, &bytes[12..16])
-        ^ word(rows, 4, 0, &bytes[8..12])
-        ^ word(rows, 8, 0, &bytes[4..8])
-        ^ word(rows, 12, register, &bytes[0..4])
-}
-
-// The register after four bytes and a number of zero bytes. Each byte of the message meets one byte of the register.
-fn word(rows: &[u32], after: usize, register: u32, bytes: &[u8]) -> u32
-    requires { (Rows rows.now) × (after ≤ 12) × (length bytes.now ≡ 4) }
-    ensures { result
-        ≡ zeros (step (first_row rows.now)) after (foldl (step (first_row rows.now)) register bytes.now) }
-{
-    let second = register / 256;
-    let third = second / 256;
-    let fourth = third / 256;
-    look(rows, after, (fourth % 256) as u8 ^ bytes[3])
-        ^ look(rows, after + 1, (third % 256) as u8 ^ bytes[2])
-        ^ look(rows, after + 2, (second % 256) as u8 ^ bytes[1])
-        ^ look(rows, after + 3, (register % 256) as u8 ^ bytes[0])
-}
-
-// What a byte and a number of zero bytes after it make of a register of zero.
-fn look(rows: &[u32], after: usize, byte: u8) -> u32
-    requires { (Rows rows.now) × (after < 16) }
-    ensures { result ≡ zeros (step (first_row rows.now)) after (get_or (first_row rows.now) byte 0) }
-{
-    rows[after * 256 + byte as usize]
 }

@@ -2,79 +2,43 @@
 // first that is bad, and where in it the fault begins. With them are refusals before and after this one.
 #![tactic(auto)]
 
-use printing::bookmarks::{MOST_BLOCKS, onward, print_mark};
-use printing::print_word;
+use printing::blocks::{SYMBOLIC_LINK, inode, link, removed_xattr, rename, table, unlink, xattr};
+use printing::bookmarks::{FIRST, FULL, Shown, append};
 use std::io;
-use volume::{Bookmark, LastTime};
+use volume::Bookmark;
 
 const ROOM: usize = 65700;
 
-const SYMBOLIC_LINK: u16 = 41471;
-
 // The bookmark of the calls that follow.
 fn print_heading(rt: &impl Print, mark: Bookmark) -> io::Result<()> {
-    print_word(rt, b"at")?;
-    print_mark(rt, mark)?;
-    print_word(rt, b":\n")
+    println!(rt; "at {}:", Shown(mark))
 }
 
 // The value of the attribute is no text.
 fn names(rt: &impl Print, buf: &mut [u8; ROOM], mark: Bookmark, text: &[u8]) -> io::Result<()> {
-    onward(rt, b"link", mark, mark.append_link(buf, 1, 8, 1, text))?;
-    onward(rt, b"unlink", mark, mark.append_unlink(buf, 1, 8, 1, text))?;
-    onward(
-        rt,
-        b"xattr",
-        mark,
-        mark.append_xattr(buf, 1, 7, text, b"\xFF"),
-    )?;
-    onward(
-        rt,
-        b"removed xattr",
-        mark,
-        mark.append_removed_xattr(buf, 1, 7, text),
-    )?;
+    append(rt, buf, "link", mark, link(1, 8, text))?;
+    append(rt, buf, "unlink", mark, unlink(1, 8, text))?;
+    append(rt, buf, "xattr", mark, xattr(1, 7, text, b"\xFF"))?;
+    append(rt, buf, "removed xattr", mark, removed_xattr(1, 7, text))?;
     Ok(())
 }
 
-// The size is that of a target of five bytes.
+// The size of the inode is that of a target of five bytes.
 fn paths(rt: &impl Print, buf: &mut [u8; ROOM], mark: Bookmark, text: &[u8]) -> io::Result<()> {
-    onward(
+    append(rt, buf, "rename to it", mark, rename(1, b"gauge", text))?;
+    append(rt, buf, "rename of it", mark, rename(1, text, b"\xFF"))?;
+    append(
         rt,
-        b"rename to it",
+        buf,
+        "symbolic link",
         mark,
-        mark.append_rename(buf, 1, b"gauge", text),
-    )?;
-    onward(
-        rt,
-        b"rename of it",
-        mark,
-        mark.append_rename(buf, 1, text, b"\xFF"),
-    )?;
-    onward(
-        rt,
-        b"symbolic link",
-        mark,
-        mark.append_inode(buf, 7, 1, SYMBOLIC_LINK, 1, 2, 3, 4, 5, 6, 75, text),
+        inode(7, 1, SYMBOLIC_LINK, 75, text),
     )?;
     Ok(())
 }
 
-fn all_kinds(
-    rt: &impl Print,
-    buf: &mut [u8; ROOM],
-    offset: usize,
-    due: bool,
-    last: LastTime,
-    number: u64,
-    text: &[u8],
-) -> io::Result<()> {
-    let mark = Bookmark {
-        offset,
-        due,
-        last,
-        number,
-    };
+// Each append is made at the same bookmark.
+fn all_kinds(rt: &impl Print, buf: &mut [u8; ROOM], mark: Bookmark, text: &[u8]) -> io::Result<()> {
     print_heading(rt, mark)?;
     names(rt, buf, mark, text)?;
     paths(rt, buf, mark, text)?;
@@ -85,24 +49,36 @@ fn all_kinds(
 fn bad_texts(rt: &impl Print, buf: &mut [u8; ROOM]) -> io::Result<()> {
     let mut long = [97u8; 40010];
     long[39999] = 255;
-    all_kinds(rt, buf, 80, false, LastTime::Never, 0, b"a\xFFb")?;
-    all_kinds(rt, buf, 80, false, LastTime::Never, 0, b"x\xC0\x80")?;
-    all_kinds(rt, buf, 80, false, LastTime::Never, 0, b"ab\x80")?;
-    all_kinds(rt, buf, 80, false, LastTime::Never, 0, b"\xF0\x9F\x92")?;
-    all_kinds(rt, buf, 80, false, LastTime::Never, 0, b"un\xE2\x28")?;
-    all_kinds(rt, buf, 80, false, LastTime::Never, 0, b"ab\xED\xA0\x80")?;
-    all_kinds(rt, buf, 80, false, LastTime::Never, 0, &long)?;
-    all_kinds(rt, buf, 80, false, LastTime::Never, 0, &[255u8; 65536])?;
+    all_kinds(rt, buf, FIRST, b"a\xFFb")?;
+    all_kinds(rt, buf, FIRST, b"x\xC0\x80")?;
+    all_kinds(rt, buf, FIRST, b"ab\x80")?;
+    all_kinds(rt, buf, FIRST, b"\xF0\x9F\x92")?;
+    all_kinds(rt, buf, FIRST, b"un\xE2\x28")?;
+    all_kinds(rt, buf, FIRST, b"ab\xED\xA0\x80")?;
+    all_kinds(rt, buf, FIRST, &long)?;
+    all_kinds(rt, buf, FIRST, &[255u8; 65536])?;
     Ok(())
 }
 
 // The place and the number of blocks come before a text. A lower time, no room and the limit come after it.
 fn orders(rt: &impl Print, buf: &mut [u8; ROOM]) -> io::Result<()> {
-    all_kinds(rt, buf, 80, true, LastTime::Never, 0, b"a\xFFb")?;
-    all_kinds(rt, buf, 80, false, LastTime::Never, MOST_BLOCKS, b"a\xFFb")?;
-    all_kinds(rt, buf, 80, false, LastTime::At(9), 0, b"ab\xFF")?;
-    all_kinds(rt, buf, ROOM - 10, false, LastTime::At(9), 0, b"ab\xFF")?;
-    all_kinds(rt, buf, 16777196, false, LastTime::At(9), 0, b"ab\xFF")?;
+    let late = Bookmark {
+        last: Some(9),
+        ..FIRST
+    };
+    let no_room = Bookmark {
+        offset: ROOM - 10,
+        ..late
+    };
+    let at_the_limit = Bookmark {
+        offset: 16777196,
+        ..late
+    };
+    all_kinds(rt, buf, Bookmark { due: true, ..FIRST }, b"a\xFFb")?;
+    all_kinds(rt, buf, FULL, b"a\xFFb")?;
+    all_kinds(rt, buf, late, b"ab\xFF")?;
+    all_kinds(rt, buf, no_room, b"ab\xFF")?;
+    all_kinds(rt, buf, at_the_limit, b"ab\xFF")?;
     Ok(())
 }
 
@@ -113,37 +89,21 @@ fn tables(rt: &impl Print, buf: &mut [u8; ROOM]) -> io::Result<()> {
         b"\x08\0\0\0\0\0\0\0\x01\0\0\0\0\0\0\0\x02\0ok\x09\0\0\0\0\0\0\0\x01\0\0\0\0\0\0\0\x03\0\xC3\xA9\x80\x0A\0\0\0\0\0\0\0\x01\0\0\0\0\0\0\0\x01\0\xFF";
     let twice =
         b"\x08\0\0\0\0\0\0\0\x01\0\0\0\0\0\0\0\x01\0\xFF\x09\0\0\0\0\0\0\0\x01\0\0\0\0\0\0\0\x01\0\xFF";
-    let mark = Bookmark {
-        offset: 80,
-        due: true,
-        last: LastTime::Never,
-        number: 0,
-    };
+    let mark = Bookmark { due: true, ..FIRST };
     print_heading(rt, mark)?;
-    onward(rt, b"table", mark, mark.append_table(buf, 3, links))?;
-    onward(
-        rt,
-        b"table with one link more",
-        mark,
-        mark.append_table(buf, 2, links),
-    )?;
-    onward(
-        rt,
-        b"table, link twice",
-        mark,
-        mark.append_table(buf, 2, twice),
-    )?;
+    append(rt, buf, "table", mark, table(3, links))?;
+    append(rt, buf, "table with one link more", mark, table(2, links))?;
+    append(rt, buf, "table, link twice", mark, table(2, twice))?;
     Ok(())
 }
 
 // No refused call changes the buffer.
 fn compare_unwritten(rt: &impl Print, buf: &[u8; ROOM]) -> io::Result<()> {
-    if number::same_bytes(buf, &[9u8; ROOM]) {
-        print_word(rt, b"written: nothing\n")?;
+    if buf == &[9u8; ROOM] {
+        println!(rt; "written: nothing")
     } else {
-        print_word(rt, b"written: something\n")?;
+        println!(rt; "written: something")
     }
-    Ok(())
 }
 
 // The last text is sound: only the path FF that a rename has besides and the size of the symbolic link are refused.
@@ -153,6 +113,6 @@ fn main(rt: HostRuntime) -> io::Result<()> {
     orders(&rt, &mut buf)?;
     tables(&rt, &mut buf)?;
     compare_unwritten(&rt, &buf)?;
-    all_kinds(&rt, &mut buf, 80, false, LastTime::Never, 0, b"unit")?;
+    all_kinds(&rt, &mut buf, FIRST, b"unit")?;
     Ok(())
 }

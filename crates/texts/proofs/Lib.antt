@@ -1,3 +1,2 @@
-pub mod Targets
 pub mod Table
 pub mod Joined

@@ -1,82 +1,67 @@
-// The refusal of a block, once its number is known: where that is 10, which of the block's texts is the first that is not UTF-8, and
-// where in it.
+// The refusal of a block, once its fault is known: where that is a text that is not UTF-8, which of the block's texts is the first such,
+// and where in it.
 //
-// All calls are internal: `refusal_at` for the block at an offset of a volume, which the reader and the lookups call, and the others
-// for a block that an append is asked for. The texts are looked at only where the number is 10, so a sound block costs nothing here.
+// Both calls are internal: `refusal_at` for the block at an offset of a volume, which the reader and the lookups call, and `refusal_of`
+// for a block that an append is asked for. The texts are looked at only for that fault, so a sound block costs nothing here.
 #![tactic(auto)]
 
 mod standing;
 
-ghost use Rattle.std.specs.Prelude.{◌≡◌, [], ◌∷◌};
+ghost use Rattle.std.specs.Prelude.{◌≡◌, []};
 ghost use Rattle.format.specs.Blocks.{file_type};
-ghost use Rattle.links.specs.Links.{names};
+ghost use Rattle.format.specs.Asked.{asked};
+ghost use Rattle.refusal.specs.Faults.{number_of};
 ghost use Rattle.refusal.specs.Refusal.{refusal_with};
 ghost use Rattle.refusal.specs.inner.FirstBad.{first_bad};
-ghost use Rattle.texts.specs.Texts.{targets, texts_at};
+ghost use Rattle.texts.specs.Texts.{targets, texts, texts_at};
 
-use refusal::{BadText, NOT_TEXT, Refusal, bad_of_two, bad_text, refuse, refuse_text};
+use format::kind::FileType;
+use format::new_block::NewBlock;
+use refusal::{BadText, Fault, Refusal, bad_of_two, bad_text};
 
-// A symbolic link's type: the mode divided by 4,096.
-const SYMBOLIC_LINK: u16 = 10;
-
-// Internal: the refusal with the number `fault` of a call on the block at `offset`.
-pub fn refusal_at(volume: &[u8], offset: usize, fault: u64) -> Refusal
-    ensures { result ≡ refusal_with fault (texts_at volume.now offset) }
+// Internal: the refusal for the fault of a call on the block at `offset`.
+pub fn refusal_at(volume: &[u8], offset: usize, fault: Fault) -> Refusal
+    ensures { result ≡ refusal_with (number_of fault) (texts_at volume.now offset) }
 {
-    if fault != NOT_TEXT {
-        return refuse(fault);
+    match fault {
+        Fault::NotText => standing::bad_at(volume, offset).into(),
+        _ => fault.into(),
     }
-    refuse_text(standing::bad_at(volume, offset))
 }
 
-// Internal: the refusal of a block whose one text is a name.
-pub fn name_refusal(fault: u64, name: &[u8]) -> Refusal
-    ensures { result ≡ refusal_with fault (name.now ∷ []) }
+// Internal: the refusal for the fault of a block that an append is asked for.
+pub fn refusal_of(block: NewBlock<'_>, fault: Fault) -> Refusal
+    ensures { result ≡ refusal_with (number_of fault) (texts (asked block.entry)) }
 {
-    if fault != NOT_TEXT {
-        return refuse(fault);
+    match fault {
+        Fault::NotText => bad_in(block).into(),
+        _ => fault.into(),
     }
-    refuse_text(bad_text(name))
 }
 
-// Internal: the refusal of a rename.
-pub fn rename_refusal(fault: u64, old: &[u8], new: &[u8]) -> Refusal
-    ensures { result ≡ refusal_with fault (old.now ∷ new.now ∷ []) }
+// What is bad in the texts of a block.
+fn bad_in(block: NewBlock<'_>) -> BadText
+    ensures { result ≡ first_bad (texts (asked block.entry)) }
 {
-    if fault != NOT_TEXT {
-        return refuse(fault);
+    match block {
+        NewBlock::Inode(b) => bad_target(b.mode, b.rest),
+        NewBlock::Link(b) | NewBlock::Unlink(b) => bad_text(b.name),
+        NewBlock::Xattr(b) => bad_text(b.name),
+        NewBlock::RemovedXattr(b) => bad_text(b.name),
+        NewBlock::Data(_) => no_text(),
+        NewBlock::Rename(b) => bad_of_two(b.old, b.new),
+        NewBlock::Table(b) => links::first_bad_name(b.links, b.count),
     }
-    refuse_text(bad_of_two(old, new))
-}
-
-// Internal: the refusal of an inode.
-pub fn inode_refusal(fault: u64, mode: u16, rest: &[u8]) -> Refusal
-    ensures { result ≡ refusal_with fault (targets (file_type mode) rest.now) }
-{
-    if fault != NOT_TEXT {
-        return refuse(fault);
-    }
-    refuse_text(bad_target(mode, rest))
-}
-
-// Internal: the refusal of a table.
-pub fn table_refusal(fault: u64, count: u64, links: &[u8]) -> Refusal
-    ensures { result ≡ refusal_with fault (names links.now count) }
-{
-    if fault != NOT_TEXT {
-        return refuse(fault);
-    }
-    refuse_text(links::first_bad_name(links, count))
 }
 
 // What is bad in an inode's n bytes, which are a text only where they are a target.
 fn bad_target(mode: u16, rest: &[u8]) -> BadText
     ensures { result ≡ first_bad (targets (file_type mode) rest.now) }
 {
-    if mode / 4096 == SYMBOLIC_LINK {
-        return bad_text(rest);
+    match FileType::of(mode) {
+        FileType::SymbolicLink => bad_text(rest),
+        _ => no_text(),
     }
-    no_text()
 }
 
 // A block without texts has none that is bad.

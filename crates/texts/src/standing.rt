@@ -9,6 +9,7 @@ ghost use Rattle.refusal.specs.inner.FirstBad.{first_bad};
 ghost use Rattle.texts.specs.Texts.{texts, texts_at};
 
 use crate::{bad_target, no_text};
+use format::kind::Kind;
 use number::part_of;
 use refusal::{BadText, bad_of_two, bad_text};
 
@@ -28,31 +29,32 @@ fn bad_in_block(volume: &[u8], offset: usize) -> BadText
     requires { offset < length volume.now }
     ensures { result ≡ first_bad (texts_at volume.now offset) }
 {
-    match number::read_u8(volume, offset) {
-        1 => bad_in_inode(volume, offset),
-        2 => bad_name(
+    // Link and unlink stand apart: of one arm for both the proof knows only "either kind", which it would have to take apart again.
+    match block::kind_at(volume, offset) {
+        Kind::Inode => bad_in_inode(volume, offset),
+        Kind::Link => bad_name(
             volume,
             offset + 27,
             number::read_u16(volume, offset + 25) as usize,
         ),
-        3 => bad_name(
+        Kind::Unlink => bad_name(
             volume,
             offset + 27,
             number::read_u16(volume, offset + 25) as usize,
         ),
-        4 => bad_name(
+        Kind::Xattr => bad_name(
             volume,
             offset + 20,
             number::read_u8(volume, offset + 17) as usize,
         ),
-        5 => bad_name(
+        Kind::RemovedXattr => bad_name(
             volume,
             offset + 18,
             number::read_u8(volume, offset + 17) as usize,
         ),
-        6 => no_text(),
-        7 => bad_path(volume, offset),
-        _ => bad_in_table(volume, offset),
+        Kind::Data => no_text(),
+        Kind::Rename => bad_path(volume, offset),
+        Kind::Table => bad_in_table(volume, offset),
     }
 }
 

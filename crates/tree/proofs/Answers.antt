@@ -1,4 +1,5 @@
 -- The answer, by the reading of the table and the listing of its lines. Assumes nothing.
+use Rattle.std.specs.Prelude.{Option, Some, None, Ok, Err}
 use Prim.Native.Nat.{ℕ, suc, ◌+◌, ◌*◌, ◌≤◌}
 use mathlib.Core.Path.{◌≡◌, refl, sym, ap, ◌∙◌}
 use mathlib.Core.Bool.{Bool, true, false, cond, false≢true, and-false}
@@ -11,8 +12,7 @@ use Rattle.number.specs.Number.{put}
 use Rattle.checks.specs.Checks.{first_fault}
 use Rattle.checks.proofs.Laws.{numbered, first_fault-append}
 use Rattle.checks.proofs.Cleared.{numbered-append}
-use Rattle.refusal.specs.Refusal.{refusal_of, refusal_with}
-use Rattle.refusal.specs.declared.Refusal.{Refusal}
+use Rattle.refusal.specs.Refusal.{Refusal, refusal_of, refusal_with}
 use Rattle.refusal.proofs.Laws.{with_other, with_number}
 use Rattle.format.specs.Blocks.{link_table}
 use Rattle.block.specs.Fields.{id_at, kind_with, field_at}
@@ -21,17 +21,16 @@ use Rattle.block.proofs.Passed.{KindPassed, kind_passed, block_numbered}
 use Rattle.texts.specs.Texts.{texts_at}
 use Rattle.volume.specs.Reading.{is_end, follow_order, read_order, read_fault, read_answer}
 use Rattle.volume.specs.declared.Bookmark.{Bookmark}
-use Rattle.volume.specs.declared.ReadAnswer.{ReadAnswer}
-use Rattle.volume.specs.declared.ReadAnswer.TheVariants as read
+use Rattle.volume.specs.declared.Found.{Found}
+use Rattle.volume.specs.Answers.{ReadAnswer}
 use Rattle.volume.proofs.Passed.{read_passed}
-use Rattle.volume.proofs.Steps.{refusal_at, Answers, ends, finds, refuses, answers}
+use Rattle.volume.proofs.Steps.{refusal_at, Answers, ends, finds, refuses, answers, found_sound}
 use Rattle.volume.proofs.OneCall.{right_place}
 use Rattle.folders.specs.Lines.{Line, line_numbers}
 use Rattle.tree.specs.Listing.{table_due, lines_at, lines_order, tree_fault, tree_answer, tree_room}
 use Rattle.tree.specs.inner.Listed.{Listed}
-use Rattle.lines.specs.declared.Given.{Given}
-use Rattle.tree.specs.declared.TreeAnswer.{TreeAnswer}
-use Rattle.tree.specs.declared.TreeAnswer.TheVariants.{Lines, Refused}
+use Rattle.lines.specs.inner.Giving.{Given}
+use Rattle.tree.specs.Answers.{TreeAnswer}
 
 -- no line is refused for a text
 lines_fault : (room n : ℕ) (lines : List Line) → first_fault (lines_order room n lines) ≡ 10 → ⊥
@@ -86,25 +85,25 @@ module _ (volume : List ℕ) (mark : Bookmark) where
       Gives answer after = (tree_answer volume mark root (length out) ≡ answer) × (tree_room volume mark root out ≡ after)
 
       pub refused_with : {fault : ℕ} → tree_fault volume mark root (length out) ≡ fault → (fault ≡ 0 → ⊥)
-          → Gives (Refused (refusal_with fault (texts_at volume at))) out
+          → Gives (Err (refusal_with fault (texts_at volume at))) out
       unfolding tree_answer tree_room
       refused_with {fault} e n = rw (e, ne_eqb fault 0 n) (refl, refl)
 
       -- a line that is refused
       pub line_refused : (number : ℕ) → tree_fault volume mark root (length out) ≡ number → (number ≡ 0 → ⊥) → (number ≡ 10 → ⊥)
-          → Gives (Refused (refusal_of number)) out
+          → Gives (Err (refusal_of number)) out
       line_refused number e n d = rw (with_other number (texts_at volume at) d) (refused_with e n)
 
       pub lines_given : tree_fault volume mark root (length out) ≡ 0
-          → Gives (Lines (length (lines_at volume at root))) (put out 0 (line_numbers (lines_at volume at root)))
+          → Gives (Ok (length (lines_at volume at root))) (put out 0 (line_numbers (lines_at volume at root)))
       unfolding tree_answer tree_room
       lines_given e = rw e (refl, refl)
 
       -- reading refuses
-      pub not_read_gives : {refusal : Refusal} → read_answer volume due ≡ read.Refused refusal → Gives (Refused refusal) out
+      pub not_read_gives : {refusal : Refusal} → read_answer volume due ≡ Err refusal → Gives (Err refusal) out
       not_read_gives {refusal} e = go (answers volume due) e
         where
-          go : {a : ReadAnswer} → Answers volume due a → a ≡ read.Refused refusal → Gives (Refused refusal) out
+          go : {a : ReadAnswer} → Answers volume due a → a ≡ Err refusal → Gives (Err refusal) out
           go (ends p) e = let z : ◌≡◌ {A = ℕ} 0 1 = cc in absurd (omega arith)
           go (finds p f) e = let z : ◌≡◌ {A = ℕ} 0 1 = cc in absurd (omega arith)
           go (refuses p f) e =
@@ -116,34 +115,38 @@ module _ (volume : List ℕ) (mark : Bookmark) where
         same_fault : tree_fault volume mark root (length out) ≡ given.fault
         same_fault = rw (fault_is (length out), sound) (sym listed.fault_is)
 
-        pub all_given : given.fault ≡ 0 → Gives (Lines given.lines) after
+        pub all_given : given.fault ≡ 0 → Gives (Ok given.lines) after
         all_given z =
             rw (listed.lines_are z, listed.list_is, eq-eqb given.fault 0 z) (lines_given (same_fault ∙ z))
 
-        pub not_given : (given.fault ≡ 0 → ⊥) → Gives (Refused (refusal_of given.fault)) after
+        pub not_given : (given.fault ≡ 0 → ⊥) → Gives (Err (refusal_of given.fault)) after
         not_given n =
             rw (listed.list_is, ne_eqb given.fault 0 n)
             (line_refused given.fault same_fault n (λ e. lines_fault _ _ _ (sym listed.fault_is ∙ e)))
 
--- reading with a table due never ends
-pub end_never : {A : Type 0} (volume : List ℕ) (mark : Bookmark) → read_answer volume (table_due mark) ≡ read.End → A
-end_never {A} volume mark e = go (answers volume (table_due mark)) e
-  where
-    go : {a : ReadAnswer} → Answers volume (table_due mark) a → a ≡ read.End → A
-    go (ends p) e = absurd (false≢true (sym (never_ends volume mark) ∙ p))
-    go (finds p f) e = let z : ◌≡◌ {A = ℕ} 0 1 = cc in absurd (omega arith)
-    go (refuses p f) e = let z : ◌≡◌ {A = ℕ} 0 1 = cc in absurd (omega arith)
+-- What is read with a table due, by what the answer holds: it never ends there, and a block that is found is sound.
+module _ (volume : List ℕ) (mark due : Bookmark) (same : due ≡ table_due mark) (answer : Option Found) (told : Ok answer ≡ read_answer volume due) where
+  pub end_never : {A : Type 0} → answer ≡ None → A
+  end_never {A} none = go (answers volume (table_due mark)) (sym (rw (same, none) at told))
+    where
+      go : {a : ReadAnswer} → Answers volume (table_due mark) a → a ≡ Ok None → A
+      go (ends p) e = absurd (false≢true (sym (never_ends volume mark) ∙ p))
+      go (finds p f) e = let z : ◌≡◌ {A = ℕ} 0 1 = cc in absurd (omega arith)
+      go (refuses p f) e = let z : ◌≡◌ {A = ℕ} 0 1 = cc in absurd (omega arith)
+
+  pub table_sound : (found : Found) → answer ≡ Some found → read_fault volume (table_due mark) ≡ 0
+  table_sound found some = found_sound volume (table_due mark) found (sym (rw (same, some) at told))
 
 -- a refusal has a number
 abbrev pub RefusedByNumber : TreeAnswer → Type 0
-RefusedByNumber (Lines n) = Unit {0}
-RefusedByNumber (Refused refusal) = refusal.number ≡ 0 → ⊥
+RefusedByNumber (Ok n) = Unit {0}
+RefusedByNumber (Err refusal) = refusal.number ≡ 0 → ⊥
 
 pub tree_refused_by_number : (volume : List ℕ) (mark : Bookmark) (root room : ℕ) → RefusedByNumber (tree_answer volume mark root room)
 unfolding tree_answer
 tree_refused_by_number volume mark root room = go (tree_fault volume mark root room) (eqb (tree_fault volume mark root room) 0) refl
   where
     go : (fault : ℕ) (t : Bool) → eqb fault 0 ≡ t
-        → RefusedByNumber (cond t (Lines (length (lines_at volume mark.offset root))) (Refused (refusal_with fault (texts_at volume mark.offset))))
+        → RefusedByNumber (cond t (Ok (length (lines_at volume mark.offset root))) (Err (refusal_with fault (texts_at volume mark.offset))))
     go fault true e = tt
     go fault false e = λ z. eqb-false _ _ e (sym (with_number fault (texts_at volume mark.offset)) ∙ z)

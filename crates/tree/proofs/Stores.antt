@@ -16,7 +16,7 @@ use Rattle.folders.specs.Lines.{Line, levels, line_numbers}
 use Rattle.tree.specs.Listing.{lines_order}
 use Rattle.lines.specs.inner.Giving.{State, sound, stopped, with_line, give, give_all, given_in}
 use Rattle.tree.specs.inner.Listed.{Listed}
-use Rattle.lines.specs.declared.Given.{Given}
+use Rattle.lines.specs.inner.Giving.{Given}
 use Rattle.lines.proofs.Gives.{give_none, give_first, give_deep, give_full, give_stored, give_stays}
 
 -- a line where the list is long enough

@@ -1,7 +1,7 @@
 -- What listing the tree of a link table answers.
 --
 -- That the lines are the paths from the root, each once, is claimed in claims/specs/Tree.antt.
-use Rattle.std.specs.Prelude.{ℕ, suc, ◌+◌, ◌*◌, true, cond, List, [], ◌∷◌, ◌++◌, leb, ltb, eqb, length, drop}
+use Rattle.std.specs.Prelude.{ℕ, suc, ◌+◌, ◌*◌, true, cond, List, [], ◌∷◌, ◌++◌, leb, ltb, eqb, length, drop, Ok, Err}
 use Rattle.number.specs.Number.{put}
 use Rattle.checks.specs.Checks.{Check, check, first_fault}
 use Rattle.refusal.specs.Refusal.{refusal_with}
@@ -12,8 +12,7 @@ use Rattle.texts.specs.Texts.{texts_at}
 use Rattle.volume.specs.Reading.{read_order}
 use Rattle.volume.specs.declared.Bookmark.{Bookmark}
 use Rattle.folders.specs.Lines.{Line, levels, tree_lines, line_numbers}
-use Rattle.tree.specs.declared.TreeAnswer.{TreeAnswer}
-use Rattle.tree.specs.declared.TreeAnswer.TheVariants.{Lines, Refused}
+use Rattle.tree.specs.Answers.{TreeAnswer}
 
 -- the bookmark with a table due, whatever it says itself
 abbrev pub table_due : Bookmark → Bookmark
@@ -48,8 +47,8 @@ tree_fault volume mark root room = first_fault (tree_order volume mark root room
 unfoldable pub tree_answer : (volume : List ℕ) → Bookmark → (root room : ℕ) → TreeAnswer
 tree_answer volume mark root room =
     cond (eqb (tree_fault volume mark root room) 0)
-    (Lines (length (lines_at volume mark.offset root)))
-    (Refused (refusal_with (tree_fault volume mark root room) (texts_at volume mark.offset)))
+    (Ok (length (lines_at volume mark.offset root)))
+    (Err (refusal_with (tree_fault volume mark root room) (texts_at volume mark.offset)))
 
 -- what the lent list then holds: two numbers for each line, and past them what it held before; on refusal all of that
 unfoldable pub tree_room : (volume : List ℕ) → Bookmark → (root : ℕ) (out : List ℕ) → List ℕ

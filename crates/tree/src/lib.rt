@@ -11,47 +11,25 @@ mod table;
 ghost use Rattle.std.specs.Prelude.{◌≡◌, length};
 ghost use Rattle.tree.specs.Listing.{table_due, tree_answer, tree_room};
 
-use refusal::{CUT_SHORT, Refusal, refuse};
+use refusal::{Fault, Refusal};
 use table::list_table;
-use volume::{Bookmark, ReadAnswer};
-
-// How many lines a listing has.
-#[derive(Clone, Copy)]
-pub enum TreeAnswer {
-    Lines(u64),
-    Refused(Refusal),
-}
+use volume::Bookmark;
 
 // The bookmark with a table due, whatever it says itself.
 fn table_due(mark: Bookmark) -> Bookmark
     ensures { result ≡ table_due mark }
 {
-    let last = mark.last;
-    Bookmark {
-        offset: mark.offset,
-        due: true,
-        last,
-        number: mark.number,
-    }
+    Bookmark { due: true, ..mark }
 }
 
 // Lists the tree below `root` of the table at the bookmark: two numbers a line go to the start of `out`, and the answer is how many
 // lines there are. A refusal leaves `out` as it was.
-pub fn tree(volume: &[u8], mark: Bookmark, root: u64, out: &mut [u64]) -> TreeAnswer
+pub fn tree(volume: &[u8], mark: Bookmark, root: u64, out: &mut [u64]) -> Result<u64, Refusal>
     ensures answer { result ≡ tree_answer volume.now mark root (length out.old) }
     ensures list { out.new ≡ tree_room volume.now mark root out.old }
 {
-    match table_due(mark).read(volume) {
-        ReadAnswer::Refused(refusal) => TreeAnswer::Refused(refusal),
-        // Where a table is due, no reading ends.
-        ReadAnswer::End => TreeAnswer::Refused(refuse(CUT_SHORT)),
-        ReadAnswer::Found(_) => {
-            let given = list_table(volume, mark.offset, root, out);
-            if given.fault == 0 {
-                TreeAnswer::Lines(given.lines as u64)
-            } else {
-                TreeAnswer::Refused(refuse(given.fault))
-            }
-        }
-    }
+    // Where a table is due, no reading ends.
+    table_due(mark).read(volume)?.ok_or(Fault::CutShort)?;
+    let lines = list_table(volume, mark.offset, root, out)?;
+    Ok(lines as u64)
 }

@@ -10,7 +10,8 @@ use native.Mathlib.Numerals.{add-one}
 use lib.Dec.{leb}
 use lib.ListN.{length, drop, get_or, length-drop, drop_of_length-le}
 use lib.Seq.{drop-drop, drop-cons}
-use Rattle.std.proofs.Common.{zero-le}
+use mathlib.Mathlib.Data.Bool.Basic.{dichotomy}
+use Rattle.std.proofs.Common.{zero-le, ltb, ltb-true, ltb-false}
 use borrow.Author.Tests.{le-leb, lt-leb}
 use Rattle.utf8.specs.Ascii.{AsciiRun}
 use Rattle.utf8.specs.Grammar.{Range, ◌to◌, forms, Listed}
@@ -30,7 +31,7 @@ module _ (s : List ℕ) (low high at : ℕ) where
   octet_none h = rw (drop_of_length-le s {i = at} h)
 
   module _ (h : at < length s) where
-    octet_there : in_range (low to high) (get_or s at 0) ≡ begins (low to high ∷ []) (drop at s)
+    pub octet_there : in_range (low to high) (get_or s at 0) ≡ begins (low to high ∷ []) (drop at s)
     unfolding begins
     octet_there = rw (drop-cons s at 0) (sym (and-true (in_range (low to high) (get_or s at 0))))
 
@@ -41,6 +42,14 @@ module _ (s : List ℕ) (low high at : ℕ) where
     pub octet_below : get_or s at 0 < low → leb low (get_or s at 0) ≡ begins (low to high ∷ []) (drop at s)
     unfolding in_range
     octet_below u = rw (lt-leb low (get_or s at 0) u) (rw (lt-leb low (get_or s at 0) u) at octet_there)
+
+  pub where_octet : (r : Bool) → (at < length s → r ≡ in_range (low to high) (get_or s at 0)) → (length s ≤ at → r ≡ false)
+      → r ≡ begins (low to high ∷ []) (drop at s)
+  where_octet r inside outside =
+      ⊎_elim
+      (λ e. outside (ltb-false at (length s) e) ∙ octet_none (ltb-false at (length s) e))
+      (λ e. inside (ltb-true at (length s) e) ∙ octet_there (ltb-true at (length s) e))
+      (dichotomy (ltb at (length s)))
 
 -- The octets of a form: its first range and, an octet further on, the rest of it.
 module _ (s : List ℕ) (at : ℕ) (range : Range) (p : Bool) (one : p ≡ begins (range ∷ []) (drop at s)) where

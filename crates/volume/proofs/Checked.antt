@@ -1,4 +1,5 @@
 -- A volume has exactly one verdict, and it is the one that is computed. Assumes nothing.
+use Rattle.std.specs.Prelude.{Some, None, Ok, Err}
 use Prim.Native.Nat.{ℕ}
 use mathlib.Core.Path.{◌≡◌, refl, sym, ap, ◌∙◌}
 use mathlib.Core.Logic.{◌↔◌}
@@ -8,9 +9,7 @@ use Rattle.volume.specs.Reading.{read_answer}
 use Rattle.volume.specs.Checking.{CheckedFrom, accepted_at_the_end, refused_at_a_block, after_a_block, Checked, refused_at_the_header, after_the_header}
 use Rattle.volume.specs.declared.Bookmark.{Bookmark}
 use Rattle.volume.specs.declared.Found.{Found}
-use Rattle.volume.specs.declared.HeaderAnswer.{HeaderAnswer}
-use Rattle.volume.specs.declared.ReadAnswer.{ReadAnswer}
-use Rattle.volume.specs.declared.Verdict.{Verdict}
+use Rattle.volume.specs.Answers.{HeaderAnswer, ReadAnswer, Verdict}
 use Rattle.volume.specs.inner.Walk.{on_read}
 use Rattle.volume.specs.inner.Check.{check_way, check_from, after_header, check_answer}
 use Rattle.volume.proofs.Walk.{block_after_block, walk_step}
@@ -20,13 +19,13 @@ module _ (volume : List ℕ) (sequence : ℕ) where
   abbrev Holds : Bookmark → Type 0
   Holds mark = CheckedFrom volume sequence mark (check_from volume sequence mark)
 
-  one_reading : (mark : Bookmark) → ((found : Found) → read_answer volume mark ≡ ReadAnswer.Found found → Holds found.next)
+  one_reading : (mark : Bookmark) → ((found : Found) → read_answer volume mark ≡ Ok (Some found) → Holds found.next)
       → (a : ReadAnswer) → read_answer volume mark ≡ a
       → CheckedFrom volume sequence mark (on_read (check_way sequence) mark (λ next. check_from volume sequence next) a)
   unfolding on_read
-  one_reading mark later ReadAnswer.End e = accepted_at_the_end e
-  one_reading mark later (ReadAnswer.Found found) e = after_a_block e (later found e)
-  one_reading mark later (ReadAnswer.Refused refusal) e = refused_at_a_block e
+  one_reading mark later (Ok None) e = accepted_at_the_end e
+  one_reading mark later (Ok (Some found)) e = after_a_block e (later found e)
+  one_reading mark later (Err refusal) e = refused_at_a_block e
 
   pub checked_from : (mark : Bookmark) → Holds mark
   checked_from =
@@ -46,8 +45,8 @@ module _ (volume : List ℕ) where
   checked = go (header_answer volume) refl
     where
       go : (a : HeaderAnswer) → header_answer volume ≡ a → Checked volume (after_header volume a)
-      go (HeaderAnswer.Accepted header) e = after_the_header e (checked_from volume header.sequence header.next)
-      go (HeaderAnswer.Refused refusal) e = refused_at_the_header e
+      go (Ok header) e = after_the_header e (checked_from volume header.sequence header.next)
+      go (Err refusal) e = refused_at_the_header e
 
   only_answer : {answer : Verdict} → Checked volume answer → answer ≡ check_answer volume
   unfolding check_answer after_header

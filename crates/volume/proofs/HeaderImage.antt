@@ -1,5 +1,6 @@
 -- A header is accepted exactly where the image of a header that keeps the rules stands, and that header is the one shown.
 -- Assumes nothing.
+use Rattle.std.specs.Prelude.{Ok, Err}
 use Prim.Native.Nat.{ℕ, zero, suc, ◌+◌, ◌≤◌}
 use mathlib.Core.Path.{◌≡◌, refl, sym, ap, ap₂, ◌∙◌}
 use mathlib.Core.Bool.{Bool, true, false, not, cond}
@@ -21,11 +22,9 @@ use Rattle.format.specs.Layout.{sealed}
 use Rattle.format.specs.Headers.{Header, magic, header_fields, header_image, no_hash, HeaderRules}
 use Rattle.format.proofs.Seal.{length-sealed, seal_part, part_sealed}
 use Rattle.block.specs.Order.{volume_limit, checksum_wrong}
-use Rattle.volume.specs.Heading.{header_bytes, sequence_of, hash_wrong, header_fault}
-use Rattle.volume.specs.Heading.{first_mark, header_answer}
+use Rattle.volume.specs.Heading.{header_bytes, sequence_of, hash_wrong, header_fault, first_mark, header_answer}
 use Rattle.volume.specs.declared.HeaderRead.{HeaderRead}
-use Rattle.volume.specs.declared.HeaderAnswer.{HeaderAnswer}
-use Rattle.volume.specs.declared.HeaderAnswer.TheVariants.{Accepted, Refused}
+use Rattle.volume.specs.Answers.{HeaderAnswer}
 use Rattle.volume.proofs.Passed.{HeaderPassed, header_passed}
 
 -- the header that the first 80 bytes show
@@ -162,14 +161,14 @@ given_at volume = record { sequence = sequence_of volume; next = first_mark (seq
 
 -- the two answers, each with its reason
 pub data HeaderAnswers (volume : List ℕ) : HeaderAnswer → Type 0 where
-  accepts : header_fault volume ≡ 0 → HeaderAnswers volume (Accepted (given_at volume))
-  rejects : (header_fault volume ≡ 0 → ⊥) → HeaderAnswers volume (Refused (refusal_of (header_fault volume)))
+  accepts : header_fault volume ≡ 0 → HeaderAnswers volume (Ok (given_at volume))
+  rejects : (header_fault volume ≡ 0 → ⊥) → HeaderAnswers volume (Err (refusal_of (header_fault volume)))
 
 pub header_answers : (volume : List ℕ) → HeaderAnswers volume (header_answer volume)
 unfolding header_answer
 header_answers volume = go (eqb (header_fault volume) 0) refl
   where
     go : (sound : Bool) → eqb (header_fault volume) 0 ≡ sound
-        → HeaderAnswers volume (cond sound (Accepted (given_at volume)) (Refused (refusal_of (header_fault volume))))
+        → HeaderAnswers volume (cond sound (Ok (given_at volume)) (Err (refusal_of (header_fault volume))))
     go true e = accepts (eqb-true _ _ e)
     go false e = rejects (eqb-false _ _ e)

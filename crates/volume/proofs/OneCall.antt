@@ -1,9 +1,9 @@
 -- One call of the reader: it hands out a block exactly where the rules allow one and its image stands, and says "end" exactly at
 -- the end. Assumes nothing.
+use Rattle.std.specs.Prelude.{Option, Some, None, Ok}
 use Prim.Native.Nat.{ℕ, ◌+◌, ◌≤◌, ◌<◌}
 use mathlib.Core.Path.{◌≡◌, refl, sym, ap, ap₂, ◌∙◌, subst}
 use mathlib.Core.Bool.{Bool, true, false, not, beq, false≢true, and-false, and-eq-true_iff}
-use mathlib.Core.Option.{Option, none, some}
 use mathlib.Core.List.{List, ◌++◌}
 use native.Mathlib.Omega.{arith}
 use lib.Dec.{leb, eqb}
@@ -25,13 +25,10 @@ use Rattle.format.proofs.Images.{length-image}
 use Rattle.block.proofs.Ids.{kind_known, id_known, is_table}
 use Rattle.block.proofs.Passed.{block_numbered, passed_block}
 use Rattle.block.proofs.BlockImage.{Stands, block_sound, Reads, block_complete, same_time}
-use Rattle.volume.specs.Reading.{is_end, as_option, may_follow, mark_after, read_fault, next_mark, read_answer}
-use Rattle.volume.specs.declared.LastTime.{LastTime}
-use Rattle.volume.specs.declared.LastTime.TheVariants.{Never, At}
+use Rattle.volume.specs.Reading.{is_end, may_follow, mark_after, read_fault, next_mark, read_answer}
 use Rattle.volume.specs.declared.Bookmark.{Bookmark}
 use Rattle.volume.specs.declared.Found.{Found}
-use Rattle.volume.specs.declared.ReadAnswer.{ReadAnswer}
-use Rattle.volume.specs.declared.ReadAnswer.TheVariants.{Found as Handed, End}
+use Rattle.volume.specs.Answers.{ReadAnswer}
 use Rattle.volume.proofs.Passed.{read_passed}
 use Rattle.volume.proofs.Steps.{found_at, Answers, ends, finds, refuses, answers}
 
@@ -41,7 +38,7 @@ use Rattle.volume.proofs.Steps.{found_at, Answers, ends, finds, refuses, answers
 pub record Allowed (mark : Bookmark) (block : Block) : Type 0 where
   pub place : mark.due ≡ is_table block
   pub keeps : BlockRules block
-  pub time : TimeFollows (as_option mark.last) (time_of block)
+  pub time : TimeFollows mark.last (time_of block)
   -- it can be counted
   pub counted : mark.number < top
 
@@ -49,18 +46,18 @@ pub record Allowed (mark : Bookmark) (block : Block) : Type 0 where
 abbrev pub after : Bookmark → Block → Bookmark
 after mark block = mark_after mark (mark.offset + length (image block)) (time_of block)
 
-pub may_follow_lem : (last : LastTime) (time : Option ℕ) → TimeFollows (as_option last) time → may_follow last time ≡ true
+pub may_follow_lem : (last : Option ℕ) (time : Option ℕ) → TimeFollows last time → may_follow last time ≡ true
 unfolding may_follow
-may_follow_lem last none h = refl
-may_follow_lem Never (some time) h = refl
-may_follow_lem (At last) (some time) h = le-leb last time h
+may_follow_lem last None h = refl
+may_follow_lem None (Some time) h = refl
+may_follow_lem (Some last) (Some time) h = le-leb last time h
 
-pub follows : (last : LastTime) (time : Option ℕ) → may_follow last time ≡ true → TimeFollows (as_option last) time
+pub follows : (last : Option ℕ) (time : Option ℕ) → may_follow last time ≡ true → TimeFollows last time
 unfolding may_follow
-follows Never none e = tt
-follows Never (some time) e = tt
-follows (At last) none e = tt
-follows (At last) (some time) e = leb-true last time e
+follows None None e = tt
+follows None (Some time) e = tt
+follows (Some last) None e = tt
+follows (Some last) (Some time) e = leb-true last time e
 
 pub right_place : (due table : Bool) → not (beq due table) ≡ false → due ≡ table
 right_place true true e = refl
@@ -108,11 +105,11 @@ sound_here volume mark b e =
       same = drop-part volume offset (length (image block)) ∙ ap₂ ◌++◌ s.same (ap (λ (n : ℕ). drop n volume) (sym s.end));
     }
 
-pub read_sound : (volume : List ℕ) (mark : Bookmark) (found : Found) → Bytes volume → read_answer volume mark ≡ Handed found
+pub read_sound : (volume : List ℕ) (mark : Bookmark) (found : Found) → Bytes volume → read_answer volume mark ≡ Ok (Some found)
     → HandedOut volume mark found
 read_sound volume mark found b e = go (answers volume mark) e
   where
-    go : {a : ReadAnswer} → Answers volume mark a → a ≡ Handed found → HandedOut volume mark found
+    go : {a : ReadAnswer} → Answers volume mark a → a ≡ Ok (Some found) → HandedOut volume mark found
     go (ends p) q = let z : ◌≡◌ {A = ℕ} 0 1 = cc in absurd (omega arith)
     go (finds p f) q = let s : found_at volume mark ≡ found = cc in subst (HandedOut volume mark) s (sound_here volume mark b f)
     go (refuses p f) q = let z : ◌≡◌ {A = ℕ} 0 1 = cc in absurd (omega arith)
@@ -121,7 +118,7 @@ read_sound volume mark found b e = go (answers volume mark) e
 
 -- the block is handed out at the bookmark
 pub record Hands (volume : List ℕ) (mark : Bookmark) (block : Block) : Type 0 where
-  pub answer : read_answer volume mark ≡ Handed (found_at volume mark)
+  pub answer : read_answer volume mark ≡ Ok (Some (found_at volume mark))
   pub same : shown volume (block_at volume mark.offset) ≡ block
   pub next : next_mark volume mark ≡ after mark block
 
@@ -174,11 +171,11 @@ pub record AtEnd (volume : List ℕ) (mark : Bookmark) : Type 0 where
   pub offset : mark.offset ≡ length volume
   pub none_due : mark.due ≡ false
 
-pub end_sound : (volume : List ℕ) (mark : Bookmark) → read_answer volume mark ≡ End → AtEnd volume mark
+pub end_sound : (volume : List ℕ) (mark : Bookmark) → read_answer volume mark ≡ Ok None → AtEnd volume mark
 unfolding is_end
 end_sound volume mark e = go (answers volume mark) e
   where
-    go : {a : ReadAnswer} → Answers volume mark a → a ≡ End → AtEnd volume mark
+    go : {a : ReadAnswer} → Answers volume mark a → a ≡ Ok None → AtEnd volume mark
     go (ends p) q =
         let c = (and-eq-true_iff (leb (length volume) volume_limit) _).0 p in
         let d = (and-eq-true_iff (leb 80 mark.offset) _).0 c.1 in
@@ -192,7 +189,7 @@ end_sound volume mark e = go (answers volume mark) e
     go (finds p f) q = let z : ◌≡◌ {A = ℕ} 0 1 = cc in absurd (omega arith)
     go (refuses p f) q = let z : ◌≡◌ {A = ℕ} 0 1 = cc in absurd (omega arith)
 
-pub end_complete : (volume : List ℕ) (mark : Bookmark) → AtEnd volume mark → read_answer volume mark ≡ End
+pub end_complete : (volume : List ℕ) (mark : Bookmark) → AtEnd volume mark → read_answer volume mark ≡ Ok None
 unfolding read_answer is_end
 end_complete volume mark p =
     rw (

@@ -1,5 +1,6 @@
 -- Each block takes the reader further in the volume, so reading after reading comes to an end. Therefore a walk is one reading and then
 -- the walk from the next bookmark on: its fuel never runs out. Assumes nothing.
+use Rattle.std.specs.Prelude.{Some, None, Ok, Err}
 use Prim.Native.Nat.{ℕ, zero, suc, ◌-◌, ◌<◌}
 use mathlib.Core.Path.{◌≡◌, refl, ap, ◌∙◌}
 use mathlib.Core.List.{List}
@@ -8,13 +9,13 @@ use lib.ListN.{length}
 use Rattle.volume.specs.Reading.{read_answer}
 use Rattle.volume.specs.declared.Bookmark.{Bookmark}
 use Rattle.volume.specs.declared.Found.{Found}
-use Rattle.volume.specs.declared.ReadAnswer.{ReadAnswer}
+use Rattle.volume.specs.Answers.{ReadAnswer}
 use Rattle.volume.specs.inner.Walk.{Way, on_read, walk, walk_from}
 use Rattle.volume.proofs.Steps.{read_further}
 
 -- what holds at a bookmark if it holds at the one after its block, if there is a block, holds at every bookmark
 module _ (volume : List ℕ) (P : Bookmark → Type 0)
-    (step : (mark : Bookmark) → ((found : Found) → read_answer volume mark ≡ ReadAnswer.Found found → P found.next) → P mark) where
+    (step : (mark : Bookmark) → ((found : Found) → read_answer volume mark ≡ Ok (Some found) → P found.next) → P mark) where
   within : (fuel : ℕ) (mark : Bookmark) → length volume - mark.offset < fuel → P mark
   within zero mark h = absurd (omega arith)
   within (suc fuel) mark h =
@@ -26,12 +27,12 @@ module _ (volume : List ℕ) (P : Bookmark → Type 0)
 module _ {Answer : Type 0} (volume : List ℕ) (way : Way Answer) where
   -- what a walk makes of a reading depends on the walk from the next bookmark alone
   read_same : (mark : Bookmark) (onward other : Bookmark → Answer) (a : ReadAnswer)
-      → ((found : Found) → a ≡ ReadAnswer.Found found → onward found.next ≡ other found.next)
+      → ((found : Found) → a ≡ Ok (Some found) → onward found.next ≡ other found.next)
       → on_read way mark onward a ≡ on_read way mark other a
   unfolding on_read
-  read_same mark onward other (ReadAnswer.Found found) same = ap (way.at_block mark found) (same found refl)
-  read_same mark onward other ReadAnswer.End same = refl
-  read_same mark onward other (ReadAnswer.Refused refusal) same = refl
+  read_same mark onward other (Ok (Some found)) same = ap (way.at_block mark found) (same found refl)
+  read_same mark onward other (Ok None) same = refl
+  read_same mark onward other (Err refusal) same = refl
 
   -- how much fuel there is does not matter, if it is more than the bytes that are left
   walk_same : (m n : ℕ) (mark : Bookmark) → length volume - mark.offset < m → length volume - mark.offset < n

@@ -1,5 +1,5 @@
 -- What reading a header answers.
-use Rattle.std.specs.Prelude.{ℕ, Bool, not, cond, ◌&&◌, List, [], ◌∷◌, ltb, eqb, length}
+use Rattle.std.specs.Prelude.{ℕ, Bool, not, cond, ◌&&◌, List, [], ◌∷◌, ltb, eqb, length, None, Ok, Err}
 use Prim.Native.String.{String}
 use Rattle.number.specs.Number.{number_at, part}
 use Rattle.number.specs.inner.Same.{same_bytes}
@@ -9,10 +9,8 @@ use Rattle.refusal.specs.Refusal.{refusal_of}
 use Rattle.format.specs.Layout.{start_of, width_of, total, widths_in}
 use Rattle.format.specs.Headers.{header_layout, magic, no_hash}
 use Rattle.block.specs.Order.{volume_limit, checksum_wrong}
-use Rattle.volume.specs.declared.LastTime.TheVariants.{Never}
 use Rattle.volume.specs.declared.Bookmark.{Bookmark}
-use Rattle.volume.specs.declared.HeaderAnswer.{HeaderAnswer}
-use Rattle.volume.specs.declared.HeaderAnswer.TheVariants.{Accepted, Refused}
+use Rattle.volume.specs.Answers.{HeaderAnswer}
 
 -- the bytes of a field of the header, by its name, and the number that they make
 abbrev pub header_bytes : (name : String) (volume : List ℕ) → List ℕ
@@ -51,13 +49,13 @@ header_fault volume = first_fault (header_order volume)
 
 -- the bookmark after a header: offset 80, no last time yet, no block before it, and in every volume but volume 0 a table is due
 abbrev pub first_mark : (sequence : ℕ) → Bookmark
-first_mark sequence = record { offset = 80; due = ltb 0 sequence; last = Never; number = 0 }
+first_mark sequence = record { offset = 80; due = ltb 0 sequence; last = None; number = 0 }
 
 unfoldable pub header_answer : (volume : List ℕ) → HeaderAnswer
 header_answer volume =
     cond (eqb (header_fault volume) 0)
-    (Accepted (record { sequence = sequence_of volume; next = first_mark (sequence_of volume) }))
-    (Refused (refusal_of (header_fault volume)))
+    (Ok (record { sequence = sequence_of volume; next = first_mark (sequence_of volume) }))
+    (Err (refusal_of (header_fault volume)))
 
 -- the bytes of a field that a sound header hands out; nothing where it is refused
 abbrev pub field_answer : (name : String) (volume : List ℕ) → List ℕ

@@ -3,3 +3,4 @@ pub mod Reading
 pub mod Checking
 pub mod Writing
 pub mod inner
+pub mod Answers

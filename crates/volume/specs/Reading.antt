@@ -1,6 +1,5 @@
 -- What reading the block at a bookmark answers.
-use Rattle.std.specs.Prelude.{ℕ, suc, ◌+◌, Bool, true, false, not, cond, ◌&&◌, List, [], ◌∷◌, ◌++◌, leb, eqb, length}
-use Rattle.std.proofs.Math.Option.{Option, none, some}
+use Rattle.std.specs.Prelude.{ℕ, suc, ◌+◌, Bool, true, false, not, cond, ◌&&◌, List, [], ◌∷◌, ◌++◌, leb, eqb, length, Option, Some, None, Ok, Err}
 use Rattle.checks.specs.Checks.{Check, check, first_fault}
 use Rattle.refusal.specs.Refusal.{refusal_with}
 use Rattle.format.specs.Extents.{top}
@@ -8,32 +7,24 @@ use Rattle.block.specs.Fields.{kind_at, body_end}
 use Rattle.block.specs.Order.{volume_limit, block_order}
 use Rattle.block.specs.inner.Decoded.{block_at, time_of_block}
 use Rattle.texts.specs.Texts.{texts_at}
-use Rattle.volume.specs.declared.LastTime.{LastTime}
-use Rattle.volume.specs.declared.LastTime.TheVariants.{Never, At}
 use Rattle.volume.specs.declared.Bookmark.{Bookmark}
-use Rattle.volume.specs.declared.ReadAnswer.{ReadAnswer}
-use Rattle.volume.specs.declared.ReadAnswer.TheVariants.{Found, End, Refused}
+use Rattle.volume.specs.Answers.{ReadAnswer}
 
 -- "end": the bookmark stands at the volume's length with no table due, and neither 1 nor 8 (below 80) is to be given
 unfoldable pub is_end : (volume : List ℕ) → Bookmark → Bool
 is_end volume mark =
     leb (length volume) volume_limit && (leb 80 mark.offset && (eqb mark.offset (length volume) && not mark.due))
 
--- a time, if there is one
-abbrev pub as_option : LastTime → Option ℕ
-as_option Never = none
-as_option (At time) = some time
-
 -- the time rule: whether a time may follow the last one, if there is one
-unfoldable pub may_follow : LastTime → (time : Option ℕ) → Bool
-may_follow last none = true
-may_follow Never (some time) = true
-may_follow (At last) (some time) = leb last time
+unfoldable pub may_follow : Option ℕ → (time : Option ℕ) → Bool
+may_follow last None = true
+may_follow None (Some time) = true
+may_follow (Some last) (Some time) = leb last time
 
 -- the last time once a block has been passed
-abbrev pub last_with : LastTime → (time : Option ℕ) → LastTime
-last_with last none = last
-last_with last (some time) = At time
+abbrev pub last_with : Option ℕ → (time : Option ℕ) → Option ℕ
+last_with last None = last
+last_with last (Some time) = Some time
 
 -- 9: no block more can be counted, for the bookmark's number is 2^64−1 already
 abbrev pub count_full : Bookmark → Bool
@@ -64,7 +55,7 @@ next_mark volume mark =
 
 unfoldable pub read_answer : (volume : List ℕ) → Bookmark → ReadAnswer
 read_answer volume mark =
-    cond (is_end volume mark) End
+    cond (is_end volume mark) (Ok None)
     (cond (eqb (read_fault volume mark) 0)
-    (Found (record { block = block_at volume mark.offset; number = mark.number; next = next_mark volume mark }))
-    (Refused (refusal_with (read_fault volume mark) (texts_at volume mark.offset))))
+    (Ok (Some (record { block = block_at volume mark.offset; number = mark.number; next = next_mark volume mark })))
+    (Err (refusal_with (read_fault volume mark) (texts_at volume mark.offset))))

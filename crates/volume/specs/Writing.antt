@@ -1,7 +1,6 @@
 -- What writing a header and appending a block answer, and what the buffer then holds.
-use Rattle.std.specs.Prelude.{ℕ, ◌+◌, ◌^◌, ◌<◌, Bool, not, cond, List, [], ◌∷◌, ◌++◌, ltb, eqb, length}
+use Rattle.std.specs.Prelude.{ℕ, ◌+◌, ◌^◌, ◌<◌, Bool, not, cond, List, [], ◌∷◌, ◌++◌, ltb, eqb, length, Option, Ok, Err}
 use Rattle.std.specs.Bool.{beq}
-use Rattle.std.proofs.Math.Option.{Option}
 use Rattle.number.specs.Number.{Bytes, put}
 use Rattle.checks.specs.Checks.{Check, check, first_fault}
 use Rattle.refusal.specs.Refusal.{refusal_of, refusal_with}
@@ -14,8 +13,7 @@ use Rattle.request.specs.Requests.{request_order}
 use Rattle.volume.specs.Heading.{hash_wrong, first_mark}
 use Rattle.volume.specs.Reading.{may_follow, count_full, mark_after}
 use Rattle.volume.specs.declared.Bookmark.{Bookmark}
-use Rattle.volume.specs.declared.WriteAnswer.{WriteAnswer}
-use Rattle.volume.specs.declared.WriteAnswer.TheVariants.{Next, Refused}
+use Rattle.volume.specs.Answers.{WriteAnswer}
 
 -- the checks of the place: 8 (below 80; a table is due and this is none, or this is one and none is due), 9 (the bookmark's number)
 abbrev pub place_order : Bookmark → (table : Bool) → List Check
@@ -43,8 +41,8 @@ append_fault room mark block = first_fault (append_order room mark block)
 unfoldable pub append_answer : (room : ℕ) → Bookmark → Block → WriteAnswer
 append_answer room mark block =
     cond (eqb (append_fault room mark block) 0)
-    (Next (mark_after mark (mark.offset + length (image block)) (time_of block)))
-    (Refused (refusal_with (append_fault room mark block) (texts block)))
+    (Ok (mark_after mark (mark.offset + length (image block)) (time_of block)))
+    (Err (refusal_with (append_fault room mark block) (texts block)))
 
 -- the buffer with the image at the bookmark's offset; as it was on refusal
 unfoldable pub append_buffer : (buffer : List ℕ) → Bookmark → Block → List ℕ
@@ -65,7 +63,7 @@ write_fault room header = first_fault (write_order room header)
 
 unfoldable pub write_answer : (room : ℕ) → Header → WriteAnswer
 write_answer room header =
-    cond (eqb (write_fault room header) 0) (Next (first_mark header.sequence)) (Refused (refusal_of (write_fault room header)))
+    cond (eqb (write_fault room header) 0) (Ok (first_mark header.sequence)) (Err (refusal_of (write_fault room header)))
 
 unfoldable pub write_buffer : (buffer : List ℕ) → Header → List ℕ
 write_buffer buffer header = cond (eqb (write_fault (length buffer) header) 0) (put buffer 0 (header_image header)) buffer

@@ -1,4 +1,3 @@
 pub mod Walk
 pub mod Check
-pub mod Asked
 pub mod Handed

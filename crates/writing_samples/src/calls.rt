@@ -1,38 +1,22 @@
-// What the written volumes share: modes, calls at a bookmark that is shown, headers, and the comparison with a volume that was made
+// What the written volumes share: appends at a bookmark that is shown, headers, and the comparison with a volume that was made
 // by other means.
-use printing::bookmarks::{onward, print_mark};
-use printing::{load, print_word};
+use format::new_block::NewBlock;
+use printing::bookmarks::{NOWHERE, Shown, append, onward};
+use printing::load;
 use std::io;
 use std::rt::Files;
-use volume::{Bookmark, LastTime, WriteAnswer};
+use volume::Bookmark;
 
-pub const REGULAR: u16 = 33188;
-
-pub const SYMBOLIC_LINK: u16 = 41471;
-
-pub const FOLDER: u16 = 16877;
-
-// Prints the answer of a call behind its bookmark, and gives the bookmark for the next one.
+// Prints the bookmark, and behind it what an append there answers.
 pub fn at(
     rt: &impl Print,
-    call: &[u8],
+    buf: &mut [u8],
+    call: &str,
     mark: Bookmark,
-    answer: WriteAnswer,
+    block: NewBlock<'_>,
 ) -> io::Result<Bookmark> {
-    print_word(rt, b"at")?;
-    print_mark(rt, mark)?;
-    print_word(rt, b": ")?;
-    onward(rt, call, mark, answer)
-}
-
-// A bookmark for calls that need none.
-pub fn nowhere() -> Bookmark {
-    Bookmark {
-        offset: 0,
-        due: false,
-        last: LastTime::Never,
-        number: 0,
-    }
+    print!(rt; "at {}: ", Shown(mark))?;
+    append(rt, buf, call, mark, block)
 }
 
 pub fn header(
@@ -43,18 +27,16 @@ pub fn header(
 ) -> io::Result<Bookmark> {
     let id = b"\0\x01\x02\x03\x04\x05\x06\x07\x08\x09\x0A\x0B\x0C\x0D\x0E\x0F";
     let a = volume::heading::write_header(buf, id, sequence, previous);
-    onward(rt, b"header", nowhere(), a)
+    onward(rt, "header", NOWHERE, a)
 }
 
 // Whether the volume that was written is the one made by other means.
-pub fn compare(rt: &(impl Print + Eprint + Files), written: &[u8], name: &[u8]) -> io::Result<()> {
+pub fn compare(rt: &(impl Print + Eprint + Files), written: &[u8], name: &str) -> io::Result<()> {
     let mut made = [0u8; 1024];
-    let n = load(rt, name, &mut made)?;
-    if number::same_bytes(written, &made[..n]) {
-        print_word(rt, b"written: the bytes of ")?;
+    let n = load(rt, name.as_bytes(), &mut made)?;
+    if written == &made[..n] {
+        println!(rt; "written: the bytes of {name}")
     } else {
-        print_word(rt, b"written: other bytes than ")?;
+        println!(rt; "written: other bytes than {name}")
     }
-    print_word(rt, name)?;
-    print_word(rt, b"\n")
 }

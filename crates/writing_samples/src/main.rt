@@ -5,29 +5,32 @@
 
 mod calls;
 
-use calls::{FOLDER, REGULAR, SYMBOLIC_LINK, at, compare, header, nowhere};
-use printing::bookmarks::{MOST_BLOCKS, onward, print_readings};
-use printing::{load, print_word};
+use calls::{at, compare, header};
+use printing::blocks::{
+    FOLDER, REGULAR, SYMBOLIC_LINK, data, inode, link, removed_xattr, rename, table, unlink, xattr,
+};
+use printing::bookmarks::{FIRST, FULL, MOST_BLOCKS, NOWHERE, append, onward, print_readings};
+use printing::{load, print_bytes};
 use std::io;
 use std::rt::Files;
-use volume::{Bookmark, LastTime, WriteAnswer};
+use volume::Bookmark;
 
 // Headers that are refused: an ID and a hash of other lengths, a hash in volume 0, no room.
 fn no_headers(rt: &impl Print, buf: &mut [u8; 659]) -> io::Result<()> {
     let id = b"\0\x01\x02\x03\x04\x05\x06\x07\x08\x09\x0A\x0B\x0C\x0D\x0E\x0F";
     let a = volume::heading::write_header(buf, &[0u8; 15], 1, &[9u8; 32]);
-    onward(rt, b"header, ID of 15 bytes", nowhere(), a)?;
+    onward(rt, "header, ID of 15 bytes", NOWHERE, a)?;
     let b = volume::heading::write_header(buf, id, 1, &[9u8; 33]);
-    onward(rt, b"header, hash of 33 bytes", nowhere(), b)?;
+    onward(rt, "header, hash of 33 bytes", NOWHERE, b)?;
     let c = volume::heading::write_header(buf, id, 0, &[9u8; 32]);
-    onward(rt, b"header of volume 0 with a hash", nowhere(), c)?;
+    onward(rt, "header of volume 0 with a hash", NOWHERE, c)?;
     Ok(())
 }
 
 fn no_room(rt: &impl Print) -> io::Result<()> {
     let mut little = [0u8; 79];
     let a = volume::heading::write_header(&mut little, &[0u8; 16], 1, &[9u8; 32]);
-    onward(rt, b"header in 79 bytes", nowhere(), a)?;
+    onward(rt, "header in 79 bytes", NOWHERE, a)?;
     Ok(())
 }
 
@@ -36,56 +39,19 @@ fn start(rt: &impl Print, buf: &mut [u8; 659]) -> io::Result<Bookmark> {
 }
 
 // The table: what is refused where it is due, and then the table itself.
-fn table(rt: &impl Print, buf: &mut [u8; 659], first: Bookmark) -> io::Result<Bookmark> {
+fn tables(rt: &impl Print, buf: &mut [u8; 659], first: Bookmark) -> io::Result<Bookmark> {
     let links =
         b"\x08\0\0\0\0\0\0\0\x01\0\0\0\0\0\0\0\x05\0gauge\x09\0\0\0\0\0\0\0\x01\0\0\0\0\0\0\0\x03\0log";
     let twice =
         b"\x08\0\0\0\0\0\0\0\x01\0\0\0\0\0\0\0\x01\0a\x09\0\0\0\0\0\0\0\x01\0\0\0\0\0\0\0\x01\0a";
     let mut mark = first;
-    mark = onward(
-        rt,
-        b"data where a table is due",
-        mark,
-        mark.append_data(buf, 1, b"1,5"),
-    )?;
-    mark = onward(
-        rt,
-        b"table of 4,097 links",
-        mark,
-        mark.append_table(buf, 4097, links),
-    )?;
-    mark = onward(
-        rt,
-        b"table with one link more",
-        mark,
-        mark.append_table(buf, 1, links),
-    )?;
-    mark = onward(
-        rt,
-        b"table with one link less",
-        mark,
-        mark.append_table(buf, 3, links),
-    )?;
-    mark = onward(
-        rt,
-        b"table, link twice",
-        mark,
-        mark.append_table(buf, 2, twice),
-    )?;
-    mark = onward(rt, b"table", mark, mark.append_table(buf, 2, links))?;
-    onward(rt, b"second table", mark, mark.append_table(buf, 2, links))
-}
-
-// An inode with the number, owners and times of the sample.
-fn inode(
-    mark: Bookmark,
-    buf: &mut [u8; 659],
-    time: u64,
-    mode: u16,
-    size: u64,
-    rest: &[u8],
-) -> WriteAnswer {
-    mark.append_inode(buf, 7, time, mode, 1, 2, 3, 4, 5, 6, size, rest)
+    mark = append(rt, buf, "data where a table is due", mark, data(1, b"1,5"))?;
+    mark = append(rt, buf, "table of 4,097 links", mark, table(4097, links))?;
+    mark = append(rt, buf, "table with one link more", mark, table(1, links))?;
+    mark = append(rt, buf, "table with one link less", mark, table(3, links))?;
+    mark = append(rt, buf, "table, link twice", mark, table(2, twice))?;
+    mark = append(rt, buf, "table", mark, table(2, links))?;
+    append(rt, buf, "second table", mark, table(2, links))
 }
 
 // Regular files that are refused: too many bytes, bytes that are no extents, and ranges that overlap.
@@ -93,29 +59,33 @@ fn no_files(rt: &impl Print, buf: &mut [u8; 659], first: Bookmark) -> io::Result
     let overlapping =
         b"\0\0\0\0\0\0\0\0a\0\0\0\0\0\0\0\x03\0\0\0\0\0\0\0C\x01\0\0\0\0\0\0\0\0\0\0\0\0\0\0\0\0\0\0\0\0\0\0\0\0\0\0\0\0\0\0\0\0\0\0\0\0\0\0\0a\0\0\0\0\0\0\0\x03\0\0\0\0\0\0\0R\x03\0\0\0\0\0\0\0\x01\0\0\0\0\0\0\0\x01\0\0\0\0\0\0\0\x02\0\0\0\0\0\0\0";
     let mut mark = first;
-    mark = onward(
+    mark = append(
         rt,
-        b"inode of 1,025 extents",
+        buf,
+        "inode of 1,025 extents",
         mark,
-        inode(mark, buf, 1, REGULAR, 14, &[0u8; 58425]),
+        inode(7, 1, REGULAR, 14, &[0u8; 58425]),
     )?;
-    mark = onward(
+    mark = append(
         rt,
-        b"inode, 56 bytes",
+        buf,
+        "inode, 56 bytes",
         mark,
-        inode(mark, buf, 1, REGULAR, 14, &[0u8; 56]),
+        inode(7, 1, REGULAR, 14, &[0u8; 56]),
     )?;
-    mark = onward(
+    mark = append(
         rt,
-        b"inode, multiplicity 0",
+        buf,
+        "inode, multiplicity 0",
         mark,
-        inode(mark, buf, 1, REGULAR, 14, &[0u8; 57]),
+        inode(7, 1, REGULAR, 14, &[0u8; 57]),
     )?;
-    onward(
+    append(
         rt,
-        b"inode, ranges overlap",
+        buf,
+        "inode, ranges overlap",
         mark,
-        inode(mark, buf, 1, REGULAR, 14, overlapping),
+        inode(7, 1, REGULAR, 14, overlapping),
     )
 }
 
@@ -124,166 +94,122 @@ fn no_files(rt: &impl Print, buf: &mut [u8; 659], first: Bookmark) -> io::Result
 fn file(rt: &impl Print, buf: &mut [u8; 659], mark: Bookmark) -> io::Result<Bookmark> {
     let list =
         b"\0\0\0\0\0\0\0\0a\0\0\0\0\0\0\0\x03\0\0\0\0\0\0\0C\x01\0\0\0\0\0\0\0\0\0\0\0\0\0\0\0\0\0\0\0\0\0\0\0\0\0\0\0\0\0\0\0\0\0\0\0\0\0\0\0a\0\0\0\0\0\0\0\x03\0\0\0\0\0\0\0R\x03\0\0\0\0\0\0\0\x01\0\0\0\0\0\0\0\x01\0\0\0\0\0\0\0\x04\0\0\0\0\0\0\0";
-    onward(rt, b"inode", mark, inode(mark, buf, 1, REGULAR, 14, list))
+    append(rt, buf, "inode", mark, inode(7, 1, REGULAR, 14, list))
 }
 
 fn symbolic_links(rt: &impl Print, buf: &mut [u8; 659], first: Bookmark) -> io::Result<Bookmark> {
     let mut mark = first;
-    mark = onward(
+    mark = append(
         rt,
-        b"target of another size",
+        buf,
+        "target of another size",
         mark,
-        inode(mark, buf, 2, SYMBOLIC_LINK, 76, b"gauge"),
+        inode(7, 2, SYMBOLIC_LINK, 76, b"gauge"),
     )?;
-    onward(
+    append(
         rt,
-        b"symbolic link",
+        buf,
+        "symbolic link",
         mark,
-        inode(mark, buf, 2, SYMBOLIC_LINK, 75, b"gauge"),
+        inode(7, 2, SYMBOLIC_LINK, 75, b"gauge"),
     )
 }
 
 fn folders(rt: &impl Print, buf: &mut [u8; 659], first: Bookmark) -> io::Result<Bookmark> {
     let mut mark = first;
-    mark = onward(
+    mark = append(
         rt,
-        b"folder with a byte",
+        buf,
+        "folder with a byte",
         mark,
-        inode(mark, buf, 3, FOLDER, 70, b"\xFF"),
+        inode(7, 3, FOLDER, 70, b"\xFF"),
     )?;
-    mark = onward(
+    mark = append(
         rt,
-        b"folder at a lower time",
+        buf,
+        "folder at a lower time",
         mark,
-        inode(mark, buf, 1, FOLDER, 70, b""),
+        inode(7, 1, FOLDER, 70, b""),
     )?;
-    onward(rt, b"folder", mark, inode(mark, buf, 3, FOLDER, 70, b""))
+    append(rt, buf, "folder", mark, inode(7, 3, FOLDER, 70, b""))
 }
 
+// The value of the attribute is no text.
 fn names(rt: &impl Print, buf: &mut [u8; 659], first: Bookmark) -> io::Result<Bookmark> {
     let mut mark = first;
-    mark = onward(
+    mark = append(
         rt,
-        b"link, name of 65,536 bytes",
+        buf,
+        "link, name of 65,536 bytes",
         mark,
-        mark.append_link(buf, 4, 8, 1, &[0u8; 65536]),
+        link(4, 8, &[0u8; 65536]),
     )?;
-    mark = onward(rt, b"link", mark, mark.append_link(buf, 4, 8, 1, b"gauge"))?;
-    mark = onward(
+    mark = append(rt, buf, "link", mark, link(4, 8, b"gauge"))?;
+    mark = append(rt, buf, "unlink", mark, unlink(5, 8, b"log"))?;
+    mark = append(
         rt,
-        b"unlink",
+        buf,
+        "xattr, name of 256 bytes",
         mark,
-        mark.append_unlink(buf, 5, 8, 1, b"log"),
+        xattr(6, 7, &[0u8; 256], b"m\xFF"),
     )?;
-    mark = onward(
-        rt,
-        b"xattr, name of 256 bytes",
-        mark,
-        mark.append_xattr(buf, 6, 7, &[0u8; 256], b"m\xFF"),
-    )?;
-    mark = onward(
-        rt,
-        b"xattr",
-        mark,
-        mark.append_xattr(buf, 6, 7, b"unit", b"m\xFF"),
-    )?;
-    onward(
-        rt,
-        b"removed xattr",
-        mark,
-        mark.append_removed_xattr(buf, 7, 7, b"unit"),
-    )
+    mark = append(rt, buf, "xattr", mark, xattr(6, 7, b"unit", b"m\xFF"))?;
+    append(rt, buf, "removed xattr", mark, removed_xattr(7, 7, b"unit"))
 }
 
 // Data and a rename, and after them the buffer is full.
 fn last_blocks(rt: &impl Print, buf: &mut [u8; 659], first: Bookmark) -> io::Result<Bookmark> {
     let mut mark = first;
-    mark = onward(rt, b"data", mark, mark.append_data(buf, 8, b"1,5"))?;
-    mark = onward(
+    mark = append(rt, buf, "data", mark, data(8, b"1,5"))?;
+    mark = append(
         rt,
-        b"rename",
+        buf,
+        "rename",
         mark,
-        mark.append_rename(buf, 9, b"gauge", b"p\xC3\xA9gel"),
+        rename(9, b"gauge", b"p\xC3\xA9gel"),
     )?;
-    onward(
-        rt,
-        b"data without room",
-        mark,
-        mark.append_data(buf, 10, b""),
-    )
+    append(rt, buf, "data without room", mark, data(10, b""))
 }
 
-// Bookmarks that no call hands out.
-fn made_up(
-    rt: &impl Print,
-    buf: &mut [u8; 659],
-    offset: usize,
-    last: LastTime,
-    call: &[u8],
-    time: u64,
-) -> io::Result<()> {
-    let mark = Bookmark {
-        offset,
-        due: false,
-        last,
-        number: 0,
-    };
-    at(rt, call, mark, mark.append_data(buf, time, b"1,5"))?;
-    Ok(())
-}
-
-fn table_not_due(rt: &impl Print, buf: &mut [u8; 659]) -> io::Result<()> {
-    let mark = Bookmark {
-        offset: 16777196,
-        due: false,
-        last: LastTime::Never,
-        number: 0,
-    };
-    at(rt, b"table", mark, mark.append_table(buf, 0, b""))?;
-    Ok(())
-}
-
-// The time comes before the limit: a lower one is refused for itself, and at the same one the limit decides.
+// Bookmarks that no call hands out. The time comes before the limit: a lower one is refused for itself, and at the same one the
+// limit decides.
 fn bookmarks(rt: &impl Print, buf: &mut [u8; 659]) -> io::Result<()> {
-    let latest = 18446744073709551615;
-    made_up(rt, buf, 79, LastTime::Never, b"data", 1)?;
-    table_not_due(rt, buf)?;
-    made_up(
-        rt,
-        buf,
-        16777196,
-        LastTime::At(latest),
-        b"data over the limit at a lower time",
-        18446744073709551614,
-    )?;
-    made_up(
-        rt,
-        buf,
-        16777196,
-        LastTime::At(latest),
-        b"data over the limit at the same time",
-        latest,
-    )?;
-    made_up(
-        rt,
-        buf,
-        18446744073709551615,
-        LastTime::Never,
-        b"data past the limit",
-        1,
-    )?;
+    let early = Bookmark {
+        offset: 79,
+        ..FIRST
+    };
+    at(rt, buf, "data", early, data(1, b"1,5"))?;
+    let full = Bookmark {
+        offset: 16777196,
+        ..FIRST
+    };
+    at(rt, buf, "table", full, table(0, b""))?;
+    let late = Bookmark {
+        last: Some(u64::MAX),
+        ..full
+    };
+    let lower = data(u64::MAX - 1, b"1,5");
+    at(rt, buf, "data over the limit at a lower time", late, lower)?;
+    let same = data(u64::MAX, b"1,5");
+    at(rt, buf, "data over the limit at the same time", late, same)?;
+    let past = Bookmark {
+        offset: usize::MAX,
+        ..FIRST
+    };
+    at(rt, buf, "data past the limit", past, data(1, b"1,5"))?;
     Ok(())
 }
 
+// The room is as long as the text must be: any other text shows in it, so the answer is not looked at.
 fn compare_and_list(rt: &(impl Print + Eprint + Files), written: &[u8; 659]) -> io::Result<()> {
-    compare(rt, written, b"all_kinds.vol")?;
+    compare(rt, written, "all_kinds.vol")?;
     let mut text = [0u8; 125];
-    listing::list(written, &mut text);
-    print_word(rt, &text)
+    let _ = listing::list(written, &mut text);
+    print_bytes(rt, &text)
 }
 
 fn compare_two(rt: &(impl Print + Eprint + Files), written: &[u8; 128]) -> io::Result<()> {
-    compare(rt, written, b"same_time.vol")?;
+    compare(rt, written, "same_time.vol")?;
     Ok(())
 }
 
@@ -292,56 +218,34 @@ fn compare_two(rt: &(impl Print + Eprint + Files), written: &[u8; 128]) -> io::R
 fn two_at_one_time(rt: &(impl Print + Eprint + Files)) -> io::Result<()> {
     let mut buf = [0u8; 128];
     let first = header(rt, &mut buf, 0, &[0u8; 32])?;
-    let mark = onward(rt, b"data", first, first.append_data(&mut buf, 7, b"1,5"))?;
-    onward(
-        rt,
-        b"data at the same time",
-        mark,
-        mark.append_data(&mut buf, 7, b"1,5"),
-    )?;
-    at(
-        rt,
-        b"data at a lower time",
-        mark,
-        mark.append_data(&mut buf, 6, b"1,5"),
-    )?;
+    let mark = append(rt, &mut buf, "data", first, data(7, b"1,5"))?;
+    append(rt, &mut buf, "data at the same time", mark, data(7, b"1,5"))?;
+    at(rt, &mut buf, "data at a lower time", mark, data(6, b"1,5"))?;
     compare_two(rt, &buf)?;
     Ok(())
 }
 
-// The end bookmark of V, but for what is due there and the number of its blocks.
-fn after_v(due: bool, number: u64) -> Bookmark {
-    Bookmark {
-        offset: 104,
-        due,
-        last: LastTime::At(7),
-        number,
-    }
-}
+// The end bookmark of V, but for the number of its blocks: no more can be counted.
+const AFTER_V: Bookmark = Bookmark {
+    offset: 104,
+    last: Some(7),
+    ..FULL
+};
 
 // Calls where no more blocks can be counted: only a wrong place comes before that.
 fn not_counted(rt: &impl Print, buf: &mut [u8; 128]) -> io::Result<()> {
-    let mark = after_v(false, MOST_BLOCKS);
-    let due = after_v(true, MOST_BLOCKS);
-    at(rt, b"data", mark, mark.append_data(buf, 7, b"2,5"))?;
-    at(rt, b"data", due, due.append_data(buf, 7, b"2,5"))?;
+    let mark = AFTER_V;
+    let due = Bookmark { due: true, ..mark };
+    at(rt, buf, "data", mark, data(7, b"2,5"))?;
+    at(rt, buf, "data", due, data(7, b"2,5"))?;
+    at(rt, buf, "data at a lower time", mark, data(6, b"2,5"))?;
+    at(rt, buf, "link, name not text", mark, link(7, 8, b"\xFF"))?;
     at(
         rt,
-        b"data at a lower time",
-        mark,
-        mark.append_data(buf, 6, b"2,5"),
-    )?;
-    at(
-        rt,
-        b"link, name not text",
-        mark,
-        mark.append_link(buf, 7, 8, 1, b"\xFF"),
-    )?;
-    at(
-        rt,
-        b"table with one link more",
+        buf,
+        "table with one link more",
         due,
-        due.append_table(buf, 0, b"\x08\0\0\0\0\0\0\0\x01\0\0\0\0\0\0\0\x01\0a"),
+        table(0, b"\x08\0\0\0\0\0\0\0\x01\0\0\0\0\0\0\0\x01\0a"),
     )?;
     Ok(())
 }
@@ -351,15 +255,13 @@ fn not_counted(rt: &impl Print, buf: &mut [u8; 128]) -> io::Result<()> {
 fn last_number(rt: &(impl Print + Eprint + Files)) -> io::Result<()> {
     let mut buf = [0u8; 128];
     load(rt, b"v.vol", &mut buf)?;
-    print_word(rt, b"v.vol, appended to:\n")?;
-    let mark = after_v(false, MOST_BLOCKS - 1);
-    let full = at(rt, b"data", mark, mark.append_data(&mut buf, 7, b"1,5"))?;
-    at(
-        rt,
-        b"data without room",
-        full,
-        full.append_data(&mut buf, 7, b""),
-    )?;
+    println!(rt; "v.vol, appended to:")?;
+    let mark = Bookmark {
+        number: MOST_BLOCKS - 1,
+        ..AFTER_V
+    };
+    let full = at(rt, &mut buf, "data", mark, data(7, b"1,5"))?;
+    at(rt, &mut buf, "data without room", full, data(7, b""))?;
     print_readings(rt, &buf, full)?;
     not_counted(rt, &mut buf)?;
     compare_two(rt, &buf)?;
@@ -371,7 +273,7 @@ fn main(rt: HostRuntime) -> io::Result<()> {
     no_headers(&rt, &mut buf)?;
     no_room(&rt)?;
     let mut mark = start(&rt, &mut buf)?;
-    mark = table(&rt, &mut buf, mark)?;
+    mark = tables(&rt, &mut buf, mark)?;
     mark = no_files(&rt, &mut buf, mark)?;
     mark = file(&rt, &mut buf, mark)?;
     mark = symbolic_links(&rt, &mut buf, mark)?;

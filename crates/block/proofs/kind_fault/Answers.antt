@@ -1,37 +1,27 @@
--- Each ID has its kind, whose table one call answers.
-use borrow.Author.Rules.{rules}
-use Rattle.block.specs.Fields.{kind_with}
+-- Each kind has a table of checks of its own, which one call answers.
 use Rattle.block.proofs.Faults.{unlink_as_link}
-use Rattle.block.proofs.Places.{last_kind}
 use Rattle.block.proofs.kind_fault.Goals as goal
 
-pub returns-in-1 : goal.returns-in-1
-unfolding kind_with
-returns-in-1 c = rw c.in-1.is c.inode_fault.ensures
+pub returns-in-Inode : goal.returns-in-Inode
+returns-in-Inode c = rw c.in-Inode.is c.inode_fault.ensures
 
-pub returns-in-2 : goal.returns-in-2
-unfolding kind_with
-returns-in-2 c = rw c.in-2.is c.link_fault.ensures
+pub returns-in-Link : goal.returns-in-Link
+returns-in-Link c = rw c.in-Link.is c.link_fault.ensures
 
-pub returns-in-3 : goal.returns-in-3
-unfolding kind_with
-returns-in-3 c = rw (c.in-3.is, unlink_as_link) c.link_fault-in-3.ensures
+pub returns-in-Unlink : goal.returns-in-Unlink
+returns-in-Unlink c = rw (c.in-Unlink.is, unlink_as_link) c.link_fault-in-Unlink.ensures
 
-pub returns-in-4 : goal.returns-in-4
-unfolding kind_with
-returns-in-4 c = rw c.in-4.is c.xattr_fault.ensures
+pub returns-in-Xattr : goal.returns-in-Xattr
+returns-in-Xattr c = rw c.in-Xattr.is c.xattr_fault.ensures
 
-pub returns-in-5 : goal.returns-in-5
-unfolding kind_with
-returns-in-5 c = rw c.in-5.is c.removed_xattr_fault.ensures
+pub returns-in-RemovedXattr : goal.returns-in-RemovedXattr
+returns-in-RemovedXattr c = rw c.in-RemovedXattr.is c.removed_xattr_fault.ensures
 
-pub returns-in-6 : goal.returns-in-6
-unfolding kind_with
-returns-in-6 c = rw c.in-6.is c.data_fault.ensures
+pub returns-in-Data : goal.returns-in-Data
+returns-in-Data c = rw c.in-Data.is c.data_fault.ensures
 
-pub returns-in-7 : goal.returns-in-7
-unfolding kind_with
-returns-in-7 c = rw c.in-7.is c.rename_fault.ensures
+pub returns-in-Rename : goal.returns-in-Rename
+returns-in-Rename c = rw c.in-Rename.is c.rename_fault.ensures
 
-pub returns-in_default : goal.returns-in_default
-returns-in_default c = rw (last_kind c.args.id (search rules)) c.table_fault.ensures
+pub returns-in-Table : goal.returns-in-Table
+returns-in-Table c = rw c.in-Table.is c.table_fault.ensures

@@ -2,8 +2,7 @@
 -- Joined to ReadClaim of claims/AnyBookmark by read_at_any_bookmark.
 -- Joined to ImageAt of claims/BadText by only_shown.
 -- Joined to time_of of format/Readings by same_time.
-use Rattle.std.specs.Prelude.{ℕ, ◌+◌, List}
-use Rattle.std.proofs.Math.Option.{Option, none, some}
+use Rattle.std.specs.Prelude.{Option, Some, None, ℕ, ◌+◌, List}
 use Rattle.format.specs.Blocks.{Kind, inode_block, link_block, unlink_block, xattr_block, removed_xattr_block, data_block, rename_block, link_table}
 use Rattle.block.specs.Fields.{kind_at, fixed_length, field_at, body_length, first_part, second_part}
 use Rattle.block.specs.declared.LinkBlock.{LinkBlock}
@@ -81,11 +80,11 @@ block_at volume offset = block_of (kind_at volume offset) volume offset
 
 -- the time of a block; a table has none
 abbrev pub time_of_block : Block → Option ℕ
-time_of_block (Inode b) = some b.time
-time_of_block (Link b) = some b.time
-time_of_block (Unlink b) = some b.time
-time_of_block (Xattr b) = some b.time
-time_of_block (RemovedXattr b) = some b.time
-time_of_block (Data b) = some b.time
-time_of_block (Rename b) = some b.time
-time_of_block (Table b) = none
+time_of_block (Inode b) = Some b.time
+time_of_block (Link b) = Some b.time
+time_of_block (Unlink b) = Some b.time
+time_of_block (Xattr b) = Some b.time
+time_of_block (RemovedXattr b) = Some b.time
+time_of_block (Data b) = Some b.time
+time_of_block (Rename b) = Some b.time
+time_of_block (Table b) = None

@@ -1,11 +1,10 @@
 -- The headers are sound, so the parts handed out are their fields, and the digest is that of the whole first volume.
 use Prim.Native.Nat.{ℕ, suc}
-use mathlib.Core.Path.{◌≡◌, sym, ap, ap₂, ◌∙◌}
+use mathlib.Core.Path.{◌≡◌, sym, ap₂, ◌∙◌}
 use mathlib.Core.Bool.{true, false}
 use lib.Dec.{eqb}
 use Rattle.number.specs.inner.Same.{same_bytes}
 use Rattle.fips180.specs.Hash.{sha256}
-use Rattle.sha256.specs.declared.Finished.{Finished}
 use Rattle.volume.specs.Heading.{header_bytes, sequence_of}
 use Rattle.chain.specs.Pairing.{follows}
 use Rattle.chain.proofs.Following.{handed, digested}
@@ -42,9 +41,9 @@ returns-then-not-is_next c =
     ∙ c.if-not-is_next.true in
     rw (ids, numbers)
 
-pub returns : goal.returns
+pub returns-in-Ok : goal.returns-in-Ok
 unfolding follows
-returns c =
+returns-in-Ok c =
     let first = c.args.first.now in
     let second = c.args.second.now in
     let ids : same_bytes (header_bytes "file system ID" second) (header_bytes "file system ID" first) ≡ true
@@ -57,9 +56,13 @@ returns c =
     let numbers : eqb (sequence_of second) (suc (sequence_of first)) ≡ true
     = sym (c.is_next.ensures ∙ ap₂ (λ (next number : ℕ). eqb next (suc number)) c.requires.number_value.1 c.requires.number_value.0)
     ∙ c.if-not-is_next.false in
-    let hashes : c.same_bytes-2.result ≡ same_bytes (header_bytes "previous hash" second) (sha256 first)
-    = c.same_bytes-2.ensures
-    ∙ ap₂ same_bytes
-    (c.previous_hash.ensures.bytes ∙ handed _ c.requires.first_value.1 "previous hash")
-    (ap (λ (f : Finished). f.digest) c.sha256.ensures ∙ digested _ c.requires.first_value.0) in
+    let told = c.in-Ok.ensures ∙ digested _ c.requires.first_value.0 in
+    let digest : c.in-Ok.digest ≡ sha256 first = cc in
+    let hashes : c.same_bytes-in-Ok.result ≡ same_bytes (header_bytes "previous hash" second) (sha256 first)
+    = c.same_bytes-in-Ok.ensures
+    ∙ ap₂ same_bytes (c.previous_hash.ensures.bytes ∙ handed _ c.requires.first_value.1 "previous hash") digest in
     rw (ids, numbers) hashes
+
+-- a volume with a sound header has a digest
+pub returns-in-Err : goal.returns-in-Err
+returns-in-Err c = absurd (let told = c.in-Err.ensures ∙ digested _ c.requires.first_value.0 in cc)

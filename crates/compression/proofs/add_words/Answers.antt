@@ -1,7 +1,8 @@
 -- Word by word.
+use mathlib.Core.Path.{refl}
 use Rattle.fips180.specs.Hash.{added}
 use Rattle.compression.proofs.add_words.Goals as goal
 
 pub returns : goal.returns
 unfolding added
-returns c = cc
+returns c = refl

@@ -2,7 +2,7 @@
 use Rattle.std.specs.Prelude.{ℕ, ◌+◌, ◌/◌, ◌%◌, ◌≤◌, ◌<◌, min, ◌≡◌, Bool, cond, List, [], ◌∷◌, leb, ltb, eqb, length, get_or}
 use Rattle.folders.specs.Lines.{Line, levels, each, entry_lines}
 use Rattle.folders.specs.inner.Folders.{siblings}
-use Rattle.lines.specs.declared.Given.{Given}
+use Rattle.lines.specs.inner.Giving.{Given}
 
 -- A tally is twice the number of the lines before the first one that is too deep, and one more where there is such a line. So it is
 -- odd where a line is too deep, and two tallies are joined by adding them, as long as the first one is even.

@@ -1,5 +1,5 @@
 -- What the tables hold that are filled once and lent to every checksum of a walk. The contract of `crc32` does not name them.
-use Rattle.std.specs.Prelude.{ℕ, ◌≡◌, List, ◌⊎◌, length}
+use Rattle.std.specs.Prelude.{ℕ, List}
 use Rattle.slicing.specs.inner.Slicing.{values, rows_from}
 use Rattle.crc32.specs.Crc.{byte_step}
 
@@ -10,7 +10,3 @@ crc_row = values (byte_step 0) 0 256
 -- The sixteen rows from there.
 unfoldable pub crc_rows : List ℕ
 crc_rows = rows_from crc_row
-
--- What is lent is empty or holds the rows.
-abbrev pub Lent : List ℕ → Type 0
-Lent tables = (length tables ≡ 0) ⊎ (tables ≡ crc_rows)

@@ -9,7 +9,6 @@ pub returns : goal.returns
 returns c =
     let long : length c.args.digest.held ≡ 64 = search rules in
     record {
-      state = state_written c.args.state.now c.args.digest long c.requires
-          c.write_four.ensures c.write_four-2.ensures c.write_u64.ensures c.write_bytes.ensures;
+      state = state_written c.args.state.now c.args.digest long c.requires c.write_words.ensures c.write_u64.ensures c.write_bytes.ensures;
       long = long;
     }

@@ -1,8 +1,7 @@
--- Inner page: the checks of handing out what sha256 answers: its own refusal, then 17.
--- Joined to whole_order, finish_order of digests/States by whole_handed, finish_handed.
-use Rattle.std.specs.Prelude.{ℕ, not, List, [], ◌∷◌, eqb, ltb, length}
+-- Inner page: the check of handing out a digest: 17, where fewer bytes are lent than it has.
+-- Joined to whole_order, finish_order of digests/States by digest_handed.
+use Rattle.std.specs.Prelude.{ℕ, List, [], ◌∷◌, ltb, length}
 use Rattle.checks.specs.Checks.{Check, check}
-use Rattle.sha256.specs.declared.Finished.{Finished}
 
-abbrev pub hand_order : Finished → (out : List ℕ) → List Check
-hand_order finished out = check (not (eqb finished.refusal 0)) finished.refusal ∷ check (ltb (length out) 32) 17 ∷ []
+abbrev pub hand_order : (out : List ℕ) → List Check
+hand_order out = check (ltb (length out) 32) 17 ∷ []

@@ -13,33 +13,12 @@ use Rattle.encode.proofs.Writes.{last, ◌then◌}
 use Rattle.encode.proofs.Images.{block_written}
 use Rattle.encode.proofs.write_inode.Goals as goal
 
-pub overflow_add-covered : goal.overflow_add-covered
-overflow_add-covered c = omega arith
-
-pub overflow_add-offset : goal.overflow_add-offset
-overflow_add-offset c = omega arith
-
-pub overflow_add-offset-2 : goal.overflow_add-offset-2
-overflow_add-offset-2 c = omega arith
-
-pub overflow_add-offset-3 : goal.overflow_add-offset-3
-overflow_add-offset-3 c = omega arith
-
-pub overflow_add-offset-4 : goal.overflow_add-offset-4
-overflow_add-offset-4 c = omega arith
-
-pub overflow_add-offset-5 : goal.overflow_add-offset-5
-overflow_add-offset-5 c = omega arith
-
-pub overflow_add-offset-6 : goal.overflow_add-offset-6
-overflow_add-offset-6 c = omega arith
-
 pub returns : goal.returns
 unfolding laid image
 returns c =
     let a = c.args in
     let times : List ℕ
-    = laid (8 ∷ 8 ∷ 8 ∷ 8 ∷ 8 ∷ 8 ∷ []) (a.atime ∷ a.mtime ∷ a.ctime ∷ a.btime ∷ a.size ∷ length a.rest.now ∷ []) ++ a.rest.now in
+    = laid (8 ∷ 8 ∷ 8 ∷ 8 ∷ 8 ∷ 8 ∷ []) (a.b.atime ∷ a.b.mtime ∷ a.b.ctime ∷ a.b.btime ∷ a.b.size ∷ length a.b.rest.now ∷ []) ++ a.b.rest.now in
     block_written {rest = times} a.buf.now a.offset 1 _ (lit< tt) (simp (length-append, length-le_bytes) (omega arith))
     (omega (arith, c.requires)) c.write_u8.ensures
     (c.write_u64.ensures then c.write_u64-2.ensures then c.write_u16.ensures then c.write_u16-2.ensures

@@ -7,29 +7,11 @@ use Rattle.encode.proofs.Writes.{last, ◌then◌}
 use Rattle.encode.proofs.Images.{block_written}
 use Rattle.encode.proofs.write_rename.Goals as goal
 
-pub overflow_add-covered : goal.overflow_add-covered
-overflow_add-covered c = omega arith
-
-pub overflow_add-covered-2 : goal.overflow_add-covered-2
-overflow_add-covered-2 c = omega arith
-
-pub overflow_add-offset : goal.overflow_add-offset
-overflow_add-offset c = omega arith
-
-pub overflow_add-offset-2 : goal.overflow_add-offset-2
-overflow_add-offset-2 c = omega arith
-
-pub overflow_add-offset-3 : goal.overflow_add-offset-3
-overflow_add-offset-3 c = omega arith
-
-pub overflow_add-offset-4 : goal.overflow_add-offset-4
-overflow_add-offset-4 c = omega arith
-
 pub returns : goal.returns
 unfolding image
 returns c =
     block_written c.args.buf.now c.args.offset 7 _ (lit< tt)
-    (omega (arith, length-append c.args.old.now c.args.new.now)) (omega (arith, c.requires))
+    (omega (arith, length-append c.args.b.old.now c.args.b.new.now)) (omega (arith, c.requires))
     c.write_u8.ensures
     (c.write_u64.ensures then c.write_u16.ensures then c.write_u16-2.ensures then last c.write_two.ensures)
     c.seal.ensures

@@ -7,15 +7,6 @@ use Rattle.encode.proofs.Writes.{last, ◌then◌}
 use Rattle.encode.proofs.Images.{block_written}
 use Rattle.encode.proofs.write_table.Goals as goal
 
-pub overflow_add-covered : goal.overflow_add-covered
-overflow_add-covered c = omega arith
-
-pub overflow_add-offset : goal.overflow_add-offset
-overflow_add-offset c = omega arith
-
-pub overflow_add-offset-2 : goal.overflow_add-offset-2
-overflow_add-offset-2 c = omega arith
-
 pub returns : goal.returns
 unfolding image
 returns c =

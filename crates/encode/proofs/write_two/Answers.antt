@@ -5,9 +5,6 @@ use lib.ListN.{length}
 use Rattle.number.proofs.Put.{put_next}
 use Rattle.encode.proofs.write_two.Goals as goal
 
-pub overflow_add-at : goal.overflow_add-at
-overflow_add-at c = omega arith
-
 pub returns : goal.returns
 returns c =
     let a = c.args in

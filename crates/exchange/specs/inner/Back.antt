@@ -1,27 +1,25 @@
 -- Inner page: the ways back from the numbers of the boundary to the answers. What matters is that each answer has one, not which it
 -- is: it gives back what was answered, for every answer that the calls can give.
 -- Joined to Crossing of exchange/Crossing by everything_crosses.
-use Rattle.std.specs.Prelude.{ℕ, cond, eqb}
-use Rattle.refusal.specs.declared.Refusal.{Refusal}
+use Rattle.std.specs.Prelude.{Some, None, Ok, Err, Option, ℕ, cond, eqb}
+use Rattle.refusal.specs.Refusal.{Refusal}
 use Rattle.format.specs.Blocks.{Kind, inode_block, link_block, unlink_block, xattr_block, removed_xattr_block, data_block, rename_block, link_table}
 use Rattle.format.specs.declared.Extent.{Extent}
-use Rattle.links.specs.declared.LinkAnswer.{LinkAnswer}
+use Rattle.links.specs.declared.Link.{Link as LinkPlace}
 use Rattle.block.specs.Fields.{kind_with}
 use Rattle.block.specs.declared.Part.{Part}
 use Rattle.block.specs.declared.LinkBlock.{LinkBlock}
 use Rattle.block.specs.declared.Block.{Block}
 use Rattle.block.specs.declared.Block.TheVariants.{Inode, Link, Unlink, Xattr, RemovedXattr, Data, Rename, Table}
 use Rattle.volume.specs.declared.Found.{Found}
-use Rattle.volume.specs.declared.HeaderAnswer.{HeaderAnswer}
-use Rattle.volume.specs.declared.ReadAnswer.{ReadAnswer}
-use Rattle.volume.specs.declared.Verdict.{Verdict}
-use Rattle.volume.specs.declared.WriteAnswer.{WriteAnswer}
+use Rattle.volume.specs.Answers.{HeaderAnswer, ReadAnswer, Verdict, WriteAnswer}
 use Rattle.volume.specs.declared.Rejected.{Rejected}
-use Rattle.chain.specs.declared.Pairing.{Pairing}
-use Rattle.repair.specs.declared.RepairAnswer.{RepairAnswer}
-use Rattle.tree.specs.declared.TreeAnswer.{TreeAnswer}
-use Rattle.lookup.specs.declared.PositionAnswer.{PositionAnswer}
-use Rattle.lookup.specs.declared.RunsAnswer.{RunsAnswer}
+use Rattle.chain.specs.Answers.{Pairing}
+use Rattle.repair.specs.Answers.{RepairAnswer}
+use Rattle.tree.specs.Answers.{TreeAnswer}
+use Rattle.lookup.specs.Answers.{PositionAnswer, RunsAnswer}
+use Rattle.chain.specs.declared.PairFault.TheVariants.{FirstRefused, SecondRefused, DoesNotFollow}
+use Rattle.lookup.specs.declared.Position.TheVariants.{Hole, PastEnd, Stored}
 use Rattle.exchange.specs.Marks.{bookmark_of}
 use Rattle.exchange.specs.declared.HeadingNumbers.{HeadingNumbers}
 use Rattle.exchange.specs.declared.BlockNumbers.{BlockNumbers}
@@ -43,8 +41,7 @@ refused_or number text start refused other =
 -- the header, whose bookmark has no last time and no block before it
 unfoldable pub header_back : HeadingNumbers → HeaderAnswer
 header_back n =
-    refused_or n.refusal n.text n.start HeaderAnswer.Refused
-    (HeaderAnswer.Accepted (record { sequence = n.sequence; next = bookmark_of n.next n.due 0 0 0 }))
+    refused_or n.refusal n.text n.start Err (Ok (record { sequence = n.sequence; next = bookmark_of n.next n.due 0 0 0 }))
 
 -- the variable parts of a block
 abbrev pub first_back : BlockNumbers → Part
@@ -94,35 +91,34 @@ found_back n =
 
 unfoldable pub read_back : BlockNumbers → ReadAnswer
 read_back n =
-    refused_or n.refusal n.text n.start ReadAnswer.Refused (cond (eqb n.end 0) (ReadAnswer.Found (found_back n)) ReadAnswer.End)
+    refused_or n.refusal n.text n.start Err (cond (eqb n.end 0) (Ok (Some (found_back n))) (Ok None))
 
 -- the check, at whose end bookmark no table is due
 unfoldable pub check_back : CheckNumbers → Verdict
 check_back n =
     refused_or n.refusal n.text n.start
-    (λ refusal. Verdict.Refused (record { refusal = refusal; offset = n.offset; blocks = n.blocks }))
-    (Verdict.Accepted (record { sequence = n.sequence; end = bookmark_of n.offset 0 n.timed n.time n.blocks }))
+    (λ refusal. Err (record { refusal = refusal; offset = n.offset; blocks = n.blocks }))
+    (Ok (record { sequence = n.sequence; end = bookmark_of n.offset 0 n.timed n.time n.blocks }))
 
 unfoldable pub written_back : MarkNumbers → WriteAnswer
 written_back n =
-    refused_or n.refusal n.text n.start WriteAnswer.Refused (WriteAnswer.Next (bookmark_of n.next n.due n.timed n.last n.number))
+    refused_or n.refusal n.text n.start Err (Ok (bookmark_of n.next n.due n.timed n.last n.number))
 
 -- a position: kind 0 is a hole, 1 a stored byte, and 2 past the end
 unfoldable pub position_back : PlaceNumbers → PositionAnswer
 position_back n =
-    refused_or n.refusal n.text n.start PositionAnswer.Refused
-    (cond (eqb n.kind 0) PositionAnswer.Hole
-    (cond (eqb n.kind 1) (PositionAnswer.Stored (record { volume = n.volume; offset = record { 0 = n.offset } }))
-    PositionAnswer.PastEnd))
+    refused_or n.refusal n.text n.start Err (cond (eqb n.kind 0) (Ok Hole)
+    (cond (eqb n.kind 1) (Ok (Stored (record { volume = n.volume; offset = record { 0 = n.offset } })))
+    (Ok PastEnd)))
 
 unfoldable pub runs_back : RunCountNumbers → RunsAnswer
-runs_back n = refused_or n.refusal n.text n.start RunsAnswer.Refused (RunsAnswer.Runs n.count)
+runs_back n = refused_or n.refusal n.text n.start Err (Ok n.count)
 
-unfoldable pub link_back : LinkNumbers → LinkAnswer
+unfoldable pub link_back : LinkNumbers → Option LinkPlace
 link_back n =
     cond (eqb n.missing 0)
-    (LinkAnswer.Found (record { child = n.child; parent = n.parent; name = n.name; len = n.namelen }))
-    LinkAnswer.Missing
+    (Some (record { child = n.child; parent = n.parent; name = n.name; len = n.namelen }))
+    None
 
 unfoldable pub extent_back : ExtentNumbers → Extent
 extent_back n =
@@ -143,12 +139,12 @@ fault_back n = record { refusal = record { number = n.refusal; text = n.text; st
 
 unfoldable pub pair_back : PairNumbers → Pairing
 pair_back n =
-    cond (eqb n.which 1) (Pairing.FirstRefused (fault_back n))
-    (cond (eqb n.which 2) (Pairing.SecondRefused (fault_back n))
-    (cond (eqb n.refusal 0) Pairing.Follows Pairing.DoesNotFollow))
+    cond (eqb n.which 1) (Err (FirstRefused (fault_back n)))
+    (cond (eqb n.which 2) (Err (SecondRefused (fault_back n)))
+    (cond (eqb n.refusal 0) (Ok tt) (Err DoesNotFollow)))
 
 unfoldable pub repair_back : RepairNumbers → RepairAnswer
-repair_back n = refused_or n.refusal n.text n.start RepairAnswer.Refused (RepairAnswer.Length n.length)
+repair_back n = refused_or n.refusal n.text n.start Err (Ok n.length)
 
 unfoldable pub tree_back : LineNumbers → TreeAnswer
-tree_back n = refused_or n.refusal n.text n.start TreeAnswer.Refused (TreeAnswer.Lines n.lines)
+tree_back n = refused_or n.refusal n.text n.start Err (Ok n.lines)

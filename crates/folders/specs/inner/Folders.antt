@@ -1,6 +1,7 @@
 -- Inner page: how the links of a folder are found without going through the whole table. No public contract rests on it.
-use Rattle.std.specs.Prelude.{ℕ, ◌+◌, ◌≤◌, ◌<◌, ◌≡◌, List, length, get_or, drop}
-use Rattle.order.specs.Order.{Rising}
+use Rattle.std.specs.Prelude.{ℕ, ◌+◌, ◌≤◌, ◌<◌, ◌≡◌, ◌==◌, true, List, length, get_or, take, drop, Result, Ok, Err}
+use Rattle.std.specs.List.{list_any}
+use Rattle.order.specs.Order.{Rising, Placed}
 use Rattle.folders.specs.Lines.{places_from}
 
 -- the parent of the link at a place
@@ -31,13 +32,20 @@ pub record Sorted (parents heads : List ℕ) (count : ℕ) : Type 0 where
   pub rising : Rising (parent_of parents) heads count
   pub link : (k : ℕ) → k < count → get_or heads k 0 < length parents
 
+-- what looking for the head of a folder answers: where it stands, or where it belongs where no head is that of the folder
+pub data FindsHead (parents heads : List ℕ) (folder : ℕ) : Result ℕ ℕ → Type 0 where
+  stands : {place : ℕ} → Placed (parent_of parents) heads (length heads) folder place → place < length heads
+      → parent_of parents (get_or heads place 0) ≡ folder → FindsHead parents heads folder (Ok place)
+  missing : {place : ℕ} → Placed (parent_of parents) heads (length heads) folder place
+      → (place < length heads → parent_of parents (get_or heads place 0) ≡ folder → ⊥) → FindsHead parents heads folder (Err place)
+
 -- they are the first links from a place on of all folders that have a link there
 pub record Heads (parents heads : List ℕ) (count from : ℕ) : Type 0 where
   pub few : count + from ≤ length parents
   pub sorted : Sorted parents heads count
   pub first : (k : ℕ) → k < count → NextIn parents (parent_of parents (get_or heads k 0)) from (get_or heads k 0)
   pub every : (i : ℕ) → from ≤ i → i < length parents
-      → (k : ℕ) × ((k < count) × (parent_of parents (get_or heads k 0) ≡ parent_of parents i))
+      → list_any (λ head. parent_of parents head == parent_of parents i) (take count heads) ≡ true
 
 -- the index of a table: next links and first links
 pub record Indexed (parents children nexts firsts : List ℕ) : Type 0 where

@@ -14,9 +14,14 @@ decreases-folder l = 2 * l.left + 1
 
 abbrev pub invariant-folder-loop-place : goal.invariant-folder-loop-place
 invariant-folder-loop-place l =
-    (l.place ≤ length l.parents) × ((length l.out ≡ length l.initial.out)
-    × (from_place l.room l.parents l.children l.left (sound l.initial.out l.lines) l.first
-    ≡ from_place l.room l.parents l.children l.left (sound l.out l.given) l.place))
+    let room = length l.initial.out in
+    let parents = l.index.parents.now in
+    let children = l.index.children.now in
+    record {
+      within : l.place ≤ length parents;
+      same : from_place room parents children l.left (sound l.initial.out l.lines) l.first
+          ≡ from_place room parents children l.left (sound l.out l.given) l.place;
+    }
 
 abbrev pub decreases-folder-loop-place : goal.decreases-folder-loop-place
-decreases-folder-loop-place l = length l.parents - l.place
+decreases-folder-loop-place l = length l.index.parents.now - l.place

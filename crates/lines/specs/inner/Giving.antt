@@ -1,7 +1,8 @@
 -- Inner page: lines given one after the other, as long as they can be. No public contract rests on it.
-use Rattle.std.specs.Prelude.{ℕ, suc, ◌+◌, ◌*◌, cond, List, [], ◌∷◌, leb, ltb, eqb, length, set}
+use Rattle.std.specs.Prelude.{ℕ, suc, ◌+◌, ◌*◌, cond, List, [], ◌∷◌, leb, ltb, eqb, length, set, Result, Ok, Err}
+use Rattle.refusal.specs.Faults.{number_of}
 use Rattle.folders.specs.Lines.{Line, levels}
-use Rattle.lines.specs.declared.Given.{Given}
+use Rattle.lines.specs.declared.Stopped.{Stopped}
 
 -- what has been given: the list as it is then, how many lines, and why the next one cannot be given, or 0
 abbrev pub State : Type 0
@@ -32,6 +33,14 @@ unfoldable pub give_all : (room : ℕ) → State → List Line → State
 give_all room state [] = state
 give_all room state (line ∷ lines) = give_all room (give room state line) lines
 
--- what is answered of it
+-- how it came out: how many lines are given, and why the next one cannot be, or 0
+abbrev pub Given : Type 0
+Given = record { lines : ℕ; fault : ℕ }
+
 abbrev pub given_in : State → Given
 given_in state = record { lines = state.lines; fault = state.fault }
+
+-- what is answered of it
+abbrev pub given_of : Result ℕ Stopped → Given
+given_of (Ok lines) = record { lines = lines; fault = 0 }
+given_of (Err stopped) = record { lines = stopped.lines; fault = number_of stopped.fault }

@@ -6,7 +6,7 @@ use native.Mathlib.Omega.{arith}
 use lib.ListN.{length, length-append}
 use borrow.Author.Tests.{lt-ltb, le-ltb}
 use Rattle.volume.specs.Heading.{header_answer}
-use Rattle.volume.specs.declared.HeaderAnswer.{HeaderAnswer}
+use Rattle.volume.specs.Answers.{HeaderAnswer}
 use Rattle.listing.specs.Listing.{heading_line, refused_line, list_limit}
 use Rattle.listing.specs.inner.Text.{lines_from, after_heading, listing}
 use Rattle.listing.specs.inner.Writing.{Wrote}
@@ -34,31 +34,32 @@ unfolding listing
 after volume h e = rw (le-ltb list_limit (length volume) h, e)
 
 pub refused_line-requires : goal.refused_line-requires
-refused_line-requires c = rest-fits _ (over c.args.volume.now c.if-volume-gt-LIST_LIMIT.true) c.put_word-at.ensures
+refused_line-requires c = rw c.from.ensures (rest-fits _ (over c.args.volume.now c.if-volume-gt-LIST_LIMIT.true) c.put_word-at.ensures)
 
 pub returns-then-volume-gt-LIST_LIMIT : goal.returns-then-volume-gt-LIST_LIMIT
-returns-then-volume-gt-LIST_LIMIT c = rest-written (over _ c.if-volume-gt-LIST_LIMIT.true) c.put_word-at.ensures c.refused_line.ensures
+returns-then-volume-gt-LIST_LIMIT c =
+    rest-written (over _ c.if-volume-gt-LIST_LIMIT.true) c.put_word-at.ensures (rw c.from.ensures at c.refused_line.ensures)
 
 pub put_lines-requires : goal.put_lines-requires
 unfolding after_heading
 put_lines-requires c =
-    let sound : listing c.args.volume.now ≡ heading_line ++ lines_from c.args.volume.now c.in-Accepted.header.next = after _ c.if-volume-gt-LIST_LIMIT.false (sym c.in-Accepted.ensures) in
-    record { lent = c.requires; first_bound = rest-fits _ sound c.put_word-at.ensures }
+    let sound : listing c.args.volume.now ≡ heading_line ++ lines_from c.args.volume.now c.in-Ok.header.next = after _ c.if-volume-gt-LIST_LIMIT.false (sym c.in-Ok.ensures) in
+    record { first_bound = rest-fits _ sound c.put_word-at.ensures }
 
-pub refused_line-requires-in-Refused : goal.refused_line-requires-in-Refused
+pub refused_line-requires-in-Err : goal.refused_line-requires-in-Err
 unfolding after_heading
-refused_line-requires-in-Refused c =
-    let unsound : listing c.args.volume.now ≡ heading_line ++ refused_line c.in-Refused.why.number 0 = after _ c.if-volume-gt-LIST_LIMIT.false (sym c.in-Refused.ensures) in
-    rest-fits _ unsound c.put_word-at.ensures
+refused_line-requires-in-Err c =
+    let unsound : listing c.args.volume.now ≡ heading_line ++ refused_line c.in-Err.why.number 0 = after _ c.if-volume-gt-LIST_LIMIT.false (sym c.in-Err.ensures) in
+    rw (c.from-in-Err.ensures, c.fault.ensures) (rest-fits _ unsound c.put_word-at.ensures)
 
-pub returns-in-Accepted : goal.returns-in-Accepted
+pub returns-in-Ok : goal.returns-in-Ok
 unfolding after_heading
-returns-in-Accepted c =
-    let sound : listing c.args.volume.now ≡ heading_line ++ lines_from c.args.volume.now c.in-Accepted.header.next = after _ c.if-volume-gt-LIST_LIMIT.false (sym c.in-Accepted.ensures) in
+returns-in-Ok c =
+    let sound : listing c.args.volume.now ≡ heading_line ++ lines_from c.args.volume.now c.in-Ok.header.next = after _ c.if-volume-gt-LIST_LIMIT.false (sym c.in-Ok.ensures) in
     rest-written sound c.put_word-at.ensures c.put_lines.ensures
 
-pub returns-in-Refused : goal.returns-in-Refused
+pub returns-in-Err : goal.returns-in-Err
 unfolding after_heading
-returns-in-Refused c =
-    let unsound : listing c.args.volume.now ≡ heading_line ++ refused_line c.in-Refused.why.number 0 = after _ c.if-volume-gt-LIST_LIMIT.false (sym c.in-Refused.ensures) in
-    rest-written unsound c.put_word-at.ensures c.refused_line-in-Refused.ensures
+returns-in-Err c =
+    let unsound : listing c.args.volume.now ≡ heading_line ++ refused_line c.in-Err.why.number 0 = after _ c.if-volume-gt-LIST_LIMIT.false (sym c.in-Err.ensures) in
+    rest-written unsound c.put_word-at.ensures (rw (c.from-in-Err.ensures, c.fault.ensures) at c.refused_line-in-Err.ensures)

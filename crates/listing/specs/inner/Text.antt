@@ -1,12 +1,12 @@
 -- Inner page: the text of a volume's listing, computed.
 -- Joined to IsListing, ListingClaim of claims/Listed by listed_holds.
-use Rattle.std.specs.Prelude.{ℕ, ◌-◌, cond, List, ◌++◌, ltb, length}
+use Rattle.std.specs.Prelude.{Ok, Err, ℕ, ◌-◌, cond, List, ◌++◌, ltb, length}
 use Rattle.block.specs.Fields.{id_at}
 use Rattle.volume.specs.Heading.{header_answer}
 use Rattle.volume.specs.inner.Walk.{Way, walk_from}
 use Rattle.volume.specs.declared.Bookmark.{Bookmark}
 use Rattle.volume.specs.declared.Found.{Found}
-use Rattle.volume.specs.declared.HeaderAnswer.{HeaderAnswer}
+use Rattle.volume.specs.Answers.{HeaderAnswer}
 use Rattle.listing.specs.Listing.{heading_line, block_line, end_line, refused_line, list_limit}
 
 -- the line of the block that is handed out at a bookmark. The block ends where the next bookmark stands
@@ -26,8 +26,8 @@ abbrev pub lines_from : (volume : List ℕ) → Bookmark → List ℕ
 lines_from volume mark = walk_from volume (listing_way volume) mark
 
 unfoldable pub after_heading : (volume : List ℕ) → HeaderAnswer → List ℕ
-after_heading volume (HeaderAnswer.Accepted header) = lines_from volume header.next
-after_heading volume (HeaderAnswer.Refused refusal) = refused_line refusal.number 0
+after_heading volume (Ok header) = lines_from volume header.next
+after_heading volume (Err refusal) = refused_line refusal.number 0
 
 unfoldable pub listing : (volume : List ℕ) → List ℕ
 listing volume =

@@ -6,8 +6,8 @@ use Rattle.extent.proofs.Sound.{Bounded, sound_bounded}
 use Rattle.runs.proofs.Stored.{StoredPlace, keeps_position, raw_below, stored_place}
 use Rattle.runs.proofs.stored_at.Goals as goal
 
-pub distance-requires : goal.distance-requires
-distance-requires c = (keeps_position _ _ c.requires.1).0
+pub distance_to-requires : goal.distance_to-requires
+distance_to-requires c = (keeps_position _ _ c.requires.1).0
 
 pub overflow_add-raw : goal.overflow_add-raw
 overflow_add-raw c =
@@ -29,11 +29,11 @@ advance-requires c =
     let place : StoredPlace c.args.e c.args.position.0 = stored_place c.args.e c.args.position.0 c.requires.0 c.requires.1 in
     let bounds : Bounded c.args.e = sound_bounded c.args.e c.requires.0 in
     let p = place in
-    rw (c.footprint_len-footprint.ensures, c.distance.ensures)
+    rw (c.footprint_len-footprint.ensures, c.distance_to.ensures)
     (omega (arith, p.place, p.within, bounds.physical))
 
 pub returns : goal.returns
 returns c =
     let place : StoredPlace c.args.e c.args.position.0 = stored_place c.args.e c.args.position.0 c.requires.0 c.requires.1 in
     c.advance.ensures
-    ∙ rw (c.footprint_len-footprint.ensures, c.distance.ensures) (sym place.place)
+    ∙ rw (c.footprint_len-footprint.ensures, c.distance_to.ensures) (sym place.place)

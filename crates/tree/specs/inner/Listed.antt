@@ -3,7 +3,7 @@ use Rattle.std.specs.Prelude.{ℕ, ◌≡◌, cond, List, eqb, length}
 use Rattle.number.specs.Number.{put}
 use Rattle.checks.specs.Checks.{first_fault}
 use Rattle.folders.specs.Lines.{Line, line_numbers}
-use Rattle.lines.specs.declared.Given.{Given}
+use Rattle.lines.specs.inner.Giving.{Given}
 use Rattle.tree.specs.Listing.{lines_order}
 
 pub record Listed (lines : List Line) (old : List ℕ) (given : Given) (new : List ℕ) : Type 0 where

@@ -7,17 +7,17 @@ use Rattle.utf8.proofs.Order.{below_or_not}
 use Rattle.utf8.proofs.Reading.{char_of_form}
 use Rattle.utf8.proofs.is_char_of_three.Goals as goal
 
-pub returns-then-lead : goal.returns-then-lead
-returns-then-lead c =
+pub returns-in-224 : goal.returns-in-224
+returns-in-224 c =
     char_of_form c.args.text.now c.args.at c.requires.0 utf8_3-E0 (omega arith) (omega arith) _ c.two_follow.ensures
 
-pub returns-then-lead-2 : goal.returns-then-lead-2
-returns-then-lead-2 c =
-    char_of_form c.args.text.now c.args.at c.requires.0 utf8_3-ED (omega arith) (omega arith) _ c.two_follow-then-lead-2.ensures
+pub returns-in-237 : goal.returns-in-237
+returns-in-237 c =
+    char_of_form c.args.text.now c.args.at c.requires.0 utf8_3-ED (omega arith) (omega arith) _ c.two_follow-in-237.ensures
 
-pub returns : goal.returns
-returns c =
+pub returns-in_default : goal.returns-in_default
+returns-in_default c =
     ⊎_elim
-    (λ l. char_of_form c.args.text.now c.args.at c.requires.0 utf8_3-E1 (omega arith) (omega arith) _ c.two_follow-2.ensures)
-    (λ l. char_of_form c.args.text.now c.args.at c.requires.0 utf8_3-EE (omega arith) (omega arith) _ c.two_follow-2.ensures)
+    (λ l. char_of_form c.args.text.now c.args.at c.requires.0 utf8_3-E1 (omega arith) (omega arith) _ c.two_follow-in_default.ensures)
+    (λ l. char_of_form c.args.text.now c.args.at c.requires.0 utf8_3-EE (omega arith) (omega arith) _ c.two_follow-in_default.ensures)
     (below_or_not (get_or c.args.text.now c.args.at 0) 0xED)

@@ -1,12 +1,17 @@
--- Before the end the two tests are those of `inRange`; past it nothing stands at the place.
-use Rattle.utf8.proofs.Reading.{octet_none, octet_from, octet_below}
+-- Before the end the test is that of a range; past it nothing stands at the place.
+use Rattle.std.proofs.Common.{◌≡◌, ◌≤◌, ◌<◌, length, get_or, false, arith, rules, tests}
+use Rattle.std.proofs.lemmas.Grind.{common_steps}
+use Rattle.utf8.specs.Grammar.{◌to◌}
+use Rattle.utf8.specs.inner.Length.{in_range}
+use Rattle.utf8.proofs.Reading.{where_octet}
 use Rattle.utf8.proofs.one_follows.Goals as goal
 
-pub returns-then-low-octet : goal.returns-then-low-octet
-returns-then-low-octet c = octet_from _ _ _ _ c.if-at-text.true c.if-low-octet.true
-
-pub returns-else-low-octet : goal.returns-else-low-octet
-returns-else-low-octet c = octet_below _ _ _ _ c.if-at-text.true c.if-low-octet.false
-
 pub returns : goal.returns
-returns c = octet_none _ _ _ _ c.if-at-text.false
+unfolding in_range
+returns c =
+    let text = c.args.text.now in
+    let at = c.args.at in
+    let inside : at < length text → c.is_some_and.result ≡ in_range (c.args.low to c.args.high) (get_or text at 0)
+    = λ l. grind (arith, common_steps) in
+    let outside : length text ≤ at → c.is_some_and.result ≡ false = λ l. search (rules, tests) in
+    where_octet _ _ _ _ c.is_some_and.result inside outside

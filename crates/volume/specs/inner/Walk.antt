@@ -1,12 +1,11 @@
 -- Inner page: the walk over the blocks of a volume, from a bookmark on. The check and the listing are such walks; the fuel, what
 -- follows a block, and the law of one step (proofs/Walk.antt) stand here alone.
-use Rattle.std.specs.Prelude.{ℕ, zero, suc, List, length}
-use Rattle.refusal.specs.Refusal.{refusal_of}
-use Rattle.refusal.specs.declared.Refusal.{Refusal}
+use Rattle.std.specs.Prelude.{Some, None, Ok, Err, ℕ, zero, suc, List, length}
+use Rattle.refusal.specs.Refusal.{refusal_of, Refusal}
 use Rattle.volume.specs.Reading.{read_answer}
 use Rattle.volume.specs.declared.Bookmark.{Bookmark}
 use Rattle.volume.specs.declared.Found.{Found}
-use Rattle.volume.specs.declared.ReadAnswer.{ReadAnswer}
+use Rattle.volume.specs.Answers.{ReadAnswer}
 
 -- What a walk makes of each reading. At a block it may make its answer from the answer of the walk that goes on from the next bookmark,
 -- or stop. A walk that keeps something from block to block has an answer that is a function of it.
@@ -17,9 +16,9 @@ pub record Way (Answer : Type 0) : Type 0 where
 
 -- one reading
 unfoldable pub on_read : {Answer : Type 0} → Way Answer → Bookmark → (onward : Bookmark → Answer) → ReadAnswer → Answer
-on_read way mark onward (ReadAnswer.Found found) = way.at_block mark found (onward found.next)
-on_read way mark onward ReadAnswer.End = way.at_end mark
-on_read way mark onward (ReadAnswer.Refused refusal) = way.at_refusal mark refusal
+on_read way mark onward (Ok (Some found)) = way.at_block mark found (onward found.next)
+on_read way mark onward (Ok None) = way.at_end mark
+on_read way mark onward (Err refusal) = way.at_refusal mark refusal
 
 -- reading after reading. The fuel counts down and is never used up: each block takes at least one byte
 unfoldable pub walk : {Answer : Type 0} → (fuel : ℕ) (volume : List ℕ) → Way Answer → Bookmark → Answer

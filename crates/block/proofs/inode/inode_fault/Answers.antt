@@ -25,10 +25,7 @@ returns-then-is_too_long c =
     (decided (hit (told c.is_too_long.ensures c.if-is_too_long.true))))
 
 pub end_fault-requires : goal.end_fault-requires
-end_fault-requires c = record {
-  lent = search rules;
-  offset_le_from = (search rules, search rules, told c.is_too_long.ensures c.if-is_too_long.false);
-}
+end_fault-requires c = record { offset_le_from = (search rules, search rules, told c.is_too_long.ensures c.if-is_too_long.false) }
 
 pub returns : goal.returns
 unfolding body_length

@@ -1,11 +1,5 @@
--- The name begins after the fixed fields and is as long as its field says.
-use borrow.Author.Rules.{rules}
-use Rattle.block.specs.inner.Decoded.{block_of}
+-- Each field is what its reading gives, and the name begins after the fixed fields.
 use Rattle.block.proofs.link.decode_link.Goals as goal
 
-pub fields-requires : goal.fields-requires
-fields-requires c = (search rules, c.read_u16-n.ensures)
-
 pub returns : goal.returns
-unfolding block_of
-returns c = rw c.fields.ensures
+returns c = rw (c.read_u64.ensures, c.read_u64-2.ensures, c.read_u64-3.ensures, c.read_u16.ensures)

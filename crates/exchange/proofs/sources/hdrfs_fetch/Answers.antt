@@ -1,23 +1,14 @@
--- The refusal decides first; without one, the number in the first header tells which volume has it.
-use mathlib.Core.Path.{sym, ◌∙◌}
-use borrow.Author.Tests.{eq-eqb, ne_eqb}
-use Rattle.lookup.proofs.Fetch.{second_has}
+-- Where nothing is refused, the number in the first header tells which volume has it.
+use mathlib.Core.Path.{sym, ap, ◌∙◌}
+use borrow.Author.Tests.{eq-eqb}
+use Rattle.refusal.specs.Faults.{fault_number}
 use Rattle.exchange.specs.Sources.{source_of}
+use Rattle.exchange.proofs.Told.{told_by_the_first}
 use Rattle.exchange.proofs.sources.hdrfs_fetch.Goals as goal
 
-pub returns-then-refusal-ne0 : goal.returns-then-refusal-ne0
+pub returns-in-Ok : goal.returns-in-Ok
 unfolding source_of
-returns-then-refusal-ne0 c = rw (← c.fetch_refusal-refusal.ensures, ne_eqb _ _ c.if-refusal-ne0.true)
-
-pub returns-then-read_u64-number : goal.returns-then-read_u64-number
-unfolding source_of
-returns-then-read_u64-number c =
-    let none = c.if-refusal-ne0.false in
-    rw (← c.fetch_refusal-refusal.ensures, eq-eqb _ _ none, ← c.read_u64.ensures, eq-eqb _ _ c.if-read_u64-number.true, none)
-
-pub returns : goal.returns
-unfolding source_of
-returns c =
-    let none = c.if-refusal-ne0.false in
-    let other = second_has _ _ _ _ _ (sym c.fetch_refusal-refusal.ensures ∙ none) (λ e. c.if-read_u64-number.false (c.read_u64.ensures ∙ e)) in
-    rw (← c.fetch_refusal-refusal.ensures, eq-eqb _ _ none, ← c.read_u64.ensures, ne_eqb _ _ c.if-read_u64-number.false, eq-eqb _ _ other, none)
+returns-in-Ok c =
+    let sound = sym c.fetch_refusal.ensures ∙ ap fault_number c.in-Ok.is in
+    let zeros = c.default.ensures in
+    rw (zeros.0, zeros.1.0, zeros.1.1.0, c.into.ensures, c.read_u64.ensures, eq-eqb _ _ sound, sound, told_by_the_first _ _ _ _ _ sound)

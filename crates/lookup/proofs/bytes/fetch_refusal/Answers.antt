@@ -1,29 +1,26 @@
--- Both headers are checked before the range, in their order. What is lent is empty.
+-- Both headers are checked before the range, in their order.
 use mathlib.Core.Path.{refl, sym, ◌∙◌}
-use mathlib.Core.Logic.{inl}
+use Rattle.std.proofs.lemmas.Result.{err_from_is_err_and}
+use Rattle.refusal.proofs.Numbers.{number_above_zero}
 use Rattle.lookup.proofs.Fetch.{first_decides, second_decides, range_decides}
 use Rattle.lookup.proofs.bytes.fetch_refusal.Goals as goal
 
-pub header_fault-fault-requires : goal.header_fault-fault-requires
-header_fault-fault-requires c = inl refl
+pub returns-in_err-header_fault : goal.returns-in_err-header_fault
+returns-in_err-header_fault c =
+    let p = err_from_is_err_and c.from_residual.result c.from_residual.ensures.1 in
+    rw (p.1, p.2) (first_decides _ _ _ _ _ _ c.in_err-header_fault.ensures (number_above_zero _))
 
-pub returns-then-fault-ne0 : goal.returns-then-fault-ne0
-returns-then-fault-ne0 c = first_decides _ _ _ _ _ _ c.header_fault-fault.ensures c.if-fault-ne0.true
-
-pub header_fault-fault2-requires : goal.header_fault-fault2-requires
-header_fault-fault2-requires c = inl refl
-
-pub returns-then-fault2-ne0 : goal.returns-then-fault2-ne0
-returns-then-fault2-ne0 c =
-    second_decides _ _ _ _ _ _ _ c.header_fault-fault.ensures c.if-fault-ne0.false
-    c.header_fault-fault2.ensures c.if-fault2-ne0.true
+pub returns-in_err-header_fault-2 : goal.returns-in_err-header_fault-2
+returns-in_err-header_fault-2 c =
+    let p = err_from_is_err_and c.from_residual-in_err-header_fault-2.result c.from_residual-in_err-header_fault-2.ensures.1 in
+    rw (p.1, p.2) (second_decides _ _ _ _ _ _ _ c.in_ok-header_fault.ensures refl c.in_err-header_fault-2.ensures (number_above_zero _))
 
 pub returns-then-is_out_of : goal.returns-then-is_out_of
 returns-then-is_out_of c =
-    range_decides _ _ _ _ _ _ _ _ c.header_fault-fault.ensures c.if-fault-ne0.false
-    c.header_fault-fault2.ensures c.if-fault2-ne0.false (sym c.if-is_out_of.true ∙ c.is_out_of.ensures)
+    range_decides _ _ _ _ _ _ _ _ c.in_ok-header_fault.ensures refl
+    c.in_ok-header_fault-2.ensures refl (sym c.if-is_out_of.true ∙ c.is_out_of.ensures)
 
 pub returns : goal.returns
 returns c =
-    range_decides _ _ _ _ _ _ _ _ c.header_fault-fault.ensures c.if-fault-ne0.false
-    c.header_fault-fault2.ensures c.if-fault2-ne0.false (sym c.if-is_out_of.false ∙ c.is_out_of.ensures)
+    range_decides _ _ _ _ _ _ _ _ c.in_ok-header_fault.ensures refl
+    c.in_ok-header_fault-2.ensures refl (sym c.if-is_out_of.false ∙ c.is_out_of.ensures)

@@ -1,40 +1,15 @@
-use mathlib.Core.Path.{◌≡◌, sym, ap, ◌∙◌}
-use native.Mathlib.Omega.{arith}
-use Rattle.checks.proofs.Scan.{any_zero, any_more, any_hit}
-use Rattle.checks.proofs.Tests.{told}
-use Rattle.extent.specs.Extents.{extent_count}
-use Rattle.extent.proofs.Sound.{each_sound}
+-- The test is asked of each extent.
+use Rattle.std.proofs.Common.{ℕ, ◌∙◌, rules, tests}
+use Rattle.std.proofs.lemmas.Iterator.{YieldsList-from_range}
+use Rattle.std.proofs.lemmas.Iterator.Search.{any_from_yields_List}
+use Rattle.extent.specs.Extents.{extent_at, extent_count}
+use Rattle.extent.proofs.Scans.{any_over}
 use Rattle.lookup.specs.Lookup.{is_stray, some_stray}
 use Rattle.lookup.proofs.presence.some_stray.Goals as goal
-
-pub loop-index-init : goal.loop-index-init
-loop-index-init c = (omega arith, any_zero _)
-
-pub is_stray-requires : goal.is_stray-requires
-is_stray-requires c =
-    rw c.extent_at.ensures (each_sound _ c.requires.0 _ (omega arith))
-
-pub returns-then-is_stray : goal.returns-then-is_stray
-unfolding some_stray
-returns-then-is_stray c =
-    sym (any_hit _ _ _ (omega arith)
-    (told (c.is_stray.ensures ∙ ap is_stray c.extent_at.ensures) c.if-is_stray.true))
-
-pub overflow_add-index : goal.overflow_add-index
-overflow_add-index c = omega arith
-
-pub loop-index-smaller : goal.loop-index-smaller
-loop-index-smaller c = omega arith
-
-pub loop-index-preserved : goal.loop-index-preserved
-loop-index-preserved c = (
-  omega arith,
-  any_more _ _ c.loop-index.invariant.1
-      (told (c.is_stray.ensures ∙ ap is_stray c.extent_at.ensures) c.if-is_stray.false),
-)
 
 pub returns : goal.returns
 unfolding some_stray
 returns c =
-    let e : c.loop-index.index ≡ extent_count c.args.list.now = omega arith in
-    sym (rw e at c.loop-index.invariant.1)
+    let list = c.args.extents.now.list.now in
+    let stray = λ (i : ℕ). is_stray (extent_at list i) in
+    any_from_yields_List stray _ _ _ c.any.ensures.ran (YieldsList-from_range 0 (extent_count list) _ (search rules) (search rules)) (λ x b q k. search (rules, tests)) ∙ any_over stray (extent_count list)

@@ -17,8 +17,8 @@ lines-in : (volume : List ℕ) (offset count root : ℕ) → count ≡ field_at 
 lines-in volume offset count root e =
     rw (take_all (length volume - (offset + 9)) (drop (offset + 9) volume) (simp length-drop (omega arith)), e)
 
-pub returns-then-count-le-FEW : goal.returns-then-count-le-FEW
-returns-then-count-le-FEW c = let a = c.args in rw (← lines-in a.volume.now a.offset _ a.root c.read_u64-count.ensures) c.list_few.ensures
+pub returns-then-count-lt-FEW : goal.returns-then-count-lt-FEW
+returns-then-count-lt-FEW c = let a = c.args in rw (← lines-in a.volume.now a.offset _ a.root c.read_u64-count.ensures) c.list.ensures
 
 pub returns : goal.returns
-returns c = let a = c.args in rw (← lines-in a.volume.now a.offset _ a.root c.read_u64-count.ensures) c.list_many.ensures
+returns c = let a = c.args in rw (← lines-in a.volume.now a.offset _ a.root c.read_u64-count.ensures) c.list-2.ensures

@@ -3,10 +3,10 @@ use mathlib.Core.Path.{ap, ◌∙◌}
 use Rattle.volume.specs.inner.Check.{after_header, check_answer}
 use Rattle.volume.proofs.checking.check_by.Goals as goal
 
-pub returns-in-Refused : goal.returns-in-Refused
+pub returns-in-Ok : goal.returns-in-Ok
 unfolding after_header check_answer
-returns-in-Refused c = ap (after_header _) c.in-Refused.ensures
+returns-in-Ok c = c.check_from.ensures ∙ ap (after_header _) c.in-Ok.ensures
 
-pub returns-in-Accepted : goal.returns-in-Accepted
+pub returns-in-Err : goal.returns-in-Err
 unfolding after_header check_answer
-returns-in-Accepted c = c.check_from.ensures ∙ ap (after_header _) c.in-Accepted.ensures
+returns-in-Err c = ap (after_header _) c.in-Err.ensures

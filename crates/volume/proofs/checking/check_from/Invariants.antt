@@ -5,8 +5,8 @@ use lib.ListN.{length}
 use Rattle.volume.specs.inner.Check.{check_from}
 use Rattle.volume.proofs.checking.check_from.Given as goal
 
-abbrev pub invariant-loop-fault : goal.invariant-loop-fault
-invariant-loop-fault l = check_from l.volume l.sequence l.initial.mark ≡ check_from l.volume l.sequence l.mark
+abbrev pub invariant-loop-tables : goal.invariant-loop-tables
+invariant-loop-tables l = check_from l.volume l.sequence l.initial.mark ≡ check_from l.volume l.sequence l.mark
 
-abbrev pub decreases-loop-fault : goal.decreases-loop-fault
-decreases-loop-fault l = length l.volume - l.mark.offset
+abbrev pub decreases-loop-tables : goal.decreases-loop-tables
+decreases-loop-tables l = length l.volume - l.mark.offset

@@ -1,61 +1,25 @@
--- Each test of the code is a check of the table, in the same order. The arguments are sized by their types.
-use native.Mathlib.Omega.{arith}
+-- Each test of the code is a check of the table, in the same order.
 use Rattle.checks.proofs.Laws.{decided}
 use Rattle.checks.proofs.Tests.{walks}
-use Rattle.volume.specs.Writing.{SizedHeader, write_fault}
+use Rattle.volume.specs.Writing.{write_fault}
 use Rattle.volume.proofs.heading.write_fault.Goals as goal
 
-pub returns-then-id-ne-ID_LEN : goal.returns-then-id-ne-ID_LEN
+pub returns-then-id-ne-ID_LEN-clause-fault : goal.returns-then-id-ne-ID_LEN-clause-fault
 unfolding write_fault
-returns-then-id-ne-ID_LEN c =
-    let sized : let a = c.args in
-    SizedHeader (record { id = a.id.now; sequence = a.sequence; previous = a.previous.now }) = record {
-      fit = omega arith;
-      id_bytes = λ i. (c.type_inv.id i).fits;
-      hash_bytes = λ i. (c.type_inv.previous i).fits;
-    } in
-    record { fault = decided (search walks depth 12); sized = sized }
+returns-then-id-ne-ID_LEN-clause-fault c = decided (search walks depth 12)
 
-pub returns-then-previous-ne-HASH_LEN : goal.returns-then-previous-ne-HASH_LEN
+pub returns-then-previous-ne-HASH_LEN-clause-fault : goal.returns-then-previous-ne-HASH_LEN-clause-fault
 unfolding write_fault
-returns-then-previous-ne-HASH_LEN c =
-    let sized : let a = c.args in
-    SizedHeader (record { id = a.id.now; sequence = a.sequence; previous = a.previous.now }) = record {
-      fit = omega arith;
-      id_bytes = λ i. (c.type_inv.id i).fits;
-      hash_bytes = λ i. (c.type_inv.previous i).fits;
-    } in
-    record { fault = decided (search walks depth 12); sized = sized }
+returns-then-previous-ne-HASH_LEN-clause-fault c = decided (search walks depth 12)
 
-pub returns-then-hash_wrong : goal.returns-then-hash_wrong
+pub returns-then-hash_wrong-clause-fault : goal.returns-then-hash_wrong-clause-fault
 unfolding write_fault
-returns-then-hash_wrong c =
-    let sized : let a = c.args in
-    SizedHeader (record { id = a.id.now; sequence = a.sequence; previous = a.previous.now }) = record {
-      fit = omega arith;
-      id_bytes = λ i. (c.type_inv.id i).fits;
-      hash_bytes = λ i. (c.type_inv.previous i).fits;
-    } in
-    record { fault = decided (search walks depth 12); sized = sized }
+returns-then-hash_wrong-clause-fault c = decided (search walks depth 12)
 
-pub returns-then-room-lt-HEADER_LEN : goal.returns-then-room-lt-HEADER_LEN
+pub returns-then-room-lt-HEADER_LEN-clause-fault : goal.returns-then-room-lt-HEADER_LEN-clause-fault
 unfolding write_fault
-returns-then-room-lt-HEADER_LEN c =
-    let sized : let a = c.args in
-    SizedHeader (record { id = a.id.now; sequence = a.sequence; previous = a.previous.now }) = record {
-      fit = omega arith;
-      id_bytes = λ i. (c.type_inv.id i).fits;
-      hash_bytes = λ i. (c.type_inv.previous i).fits;
-    } in
-    record { fault = decided (search walks depth 12); sized = sized }
+returns-then-room-lt-HEADER_LEN-clause-fault c = decided (search walks depth 12)
 
-pub returns : goal.returns
+pub returns-clause-fault : goal.returns-clause-fault
 unfolding write_fault
-returns c =
-    let sized : let a = c.args in
-    SizedHeader (record { id = a.id.now; sequence = a.sequence; previous = a.previous.now }) = record {
-      fit = omega arith;
-      id_bytes = λ i. (c.type_inv.id i).fits;
-      hash_bytes = λ i. (c.type_inv.previous i).fits;
-    } in
-    record { fault = decided (search walks depth 12); sized = sized }
+returns-clause-fault c = decided (search walks depth 12)

@@ -1,24 +1,33 @@
 -- The first fault decides; without one the image is written, and the first bookmark is answered.
-use Rattle.format.specs.Headers.{Header}
-use Rattle.volume.proofs.Writers.{header_refused, header_accepted, header_fits}
+use Rattle.std.specs.Prelude.{Ok}
+use mathlib.Core.Path.{sym, ap}
+use borrow.Author.Tests.{ne_eqb}
+use Rattle.std.proofs.lemmas.Result.{err_from_is_err_and}
+use Rattle.refusal.proofs.Numbers.{number_above_zero}
+use Rattle.volume.specs.Writing.{write_answer, write_buffer}
+use Rattle.volume.proofs.Passed.{write_passed}
 use Rattle.volume.proofs.heading.write_header.Goals as goal
 
-pub returns-then-fault-ne0 : goal.returns-then-fault-ne0
-returns-then-fault-ne0 c =
-    let asked : Header = record { id = c.args.id.now; sequence = c.args.sequence; previous = c.args.previous.now } in
-    let r = header_refused c.args.buf.now asked (c.write_fault-fault.ensures.fault, c.write_fault-fault.ensures.sized) c.refuse.ensures
-    c.if-fault-ne0.true in
-    record { answer = r.0; buffer = r.1.0; sized = r.1.1 }
+pub returns-in_err-write_fault-clause-answer : goal.returns-in_err-write_fault-clause-answer
+unfolding write_answer
+returns-in_err-write_fault-clause-answer c =
+    let p = err_from_is_err_and c.from_residual.result c.from_residual.ensures.1 in
+    rw (p.1, p.2, ← c.in_err-write_fault.ensures.fault, ne_eqb _ _ (number_above_zero c.in_err-write_fault.field-0.0))
+
+pub returns-in_err-write_fault-clause-buffer : goal.returns-in_err-write_fault-clause-buffer
+unfolding write_buffer
+returns-in_err-write_fault-clause-buffer c =
+    rw (← c.in_err-write_fault.ensures.fault, ne_eqb _ _ (number_above_zero c.in_err-write_fault.field-0.0))
 
 pub write_header-requires : goal.write_header-requires
 write_header-requires c =
-    let asked : Header = record { id = c.args.id.now; sequence = c.args.sequence; previous = c.args.previous.now } in
-    let r = header_fits c.args.buf.now asked (c.write_fault-fault.ensures.fault, c.write_fault-fault.ensures.sized) c.if-fault-ne0.false in
-    record { id_len = r.0; previous_len = r.1.0; in_bounds = r.1.1 }
+    let p = write_passed _ _ (sym c.in_ok-write_fault.ensures.fault) in
+    record { id_len = p.id-length; previous_len = p.hash-length; in_bounds = p.fits }
 
-pub returns : goal.returns
-returns c =
-    let asked : Header = record { id = c.args.id.now; sequence = c.args.sequence; previous = c.args.previous.now } in
-    let r = header_accepted c.args.buf.now asked (c.write_fault-fault.ensures.fault, c.write_fault-fault.ensures.sized) c.if-fault-ne0.false
-    c.write_header.ensures c.first_mark.ensures in
-    record { answer = r.0; buffer = r.1.0; sized = r.1.1 }
+pub returns-clause-answer : goal.returns-clause-answer
+unfolding write_answer
+returns-clause-answer c = rw (← c.in_ok-write_fault.ensures.fault) (ap Ok c.first_mark.ensures)
+
+pub returns-clause-buffer : goal.returns-clause-buffer
+unfolding write_buffer
+returns-clause-buffer c = rw (← c.in_ok-write_fault.ensures.fault) c.write_header.ensures

@@ -1,7 +1,0 @@
--- What the call writes is the image of an unlink.
-use Rattle.format.specs.Blocks.{image}
-use Rattle.encode.proofs.write_unlink.Goals as goal
-
-pub returns : goal.returns
-unfolding image
-returns c = c.write_link_or_unlink.ensures

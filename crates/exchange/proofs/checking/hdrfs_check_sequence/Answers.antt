@@ -1,5 +1,0 @@
--- One of the numbers that the whole check gives.
-use Rattle.exchange.proofs.checking.hdrfs_check_sequence.Goals as goal
-
-pub returns : goal.returns
-returns c = rw c.hdrfs_check-all.ensures
