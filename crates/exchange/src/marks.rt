@@ -1,4 +1,4 @@
-// A bookmark as numbers, numbers as a bookmark, and the number of a fault.
+// A bookmark as numbers, numbers as a bookmark, and the number of a fault. Each stands for a definition of the boundary, which calls cite.
 ghost use Rattle.std.specs.Prelude.{◌≡◌};
 ghost use Rattle.refusal.specs.Faults.{fault_number};
 ghost use Rattle.exchange.specs.Marks.{timed_number, time_number, bookmark_of};

@@ -48,7 +48,8 @@ fn keeper_of(extents: &Extents<'_>, position: Logical) -> Option<usize>
     (0..extents.len()).find(|index| is_kept(extents, *index, position))
 }
 
-// Internal: where a position is stored, the volume and the offset in it, or that no extent keeps it.
+// Internal: where a position is stored, the volume and the offset in it, or that no extent keeps it. This call and the next take the
+// list and make the value of it here, since the definitions of a lookup speak of lists.
 pub fn locate(list: &[u8], position: Logical) -> Option<(u64, Physical)>
     requires { (some_broken list.now ≡ false) × (length list.now ≤ 58368) }
     ensures { result ≡ place_of list.now position.0 }
