@@ -34,13 +34,16 @@ impl From<Stopped> for Refusal {
     }
 }
 
-// Stores a line behind `lines` others.
+// Stores a line behind `lines` others, where the list is long enough for it.
 fn put_line(out: &mut [u64], lines: usize, depth: usize, place: usize)
-    requires { 2 * lines + 2 ≤ length out.old }
+    requires { lines < 9223372036854775807 }
     ensures { out.new ≡ with_line out.old lines (record { depth = depth; place = place }) }
 {
-    out[2 * lines] = depth as u64;
-    out[2 * lines + 1] = place as u64;
+    let at = 2 * lines;
+    if at + 2 <= out.len() {
+        out[at] = depth as u64;
+        out[at + 1] = place as u64;
+    }
 }
 
 // The line of the link at a place, and then what it holds; answers how many lines are given then.
@@ -49,13 +52,14 @@ fn entry(
     index: &Index,
     place: usize,
     left: usize,
+    room: usize,
     out: &mut [u64],
     lines: usize,
 ) -> Result<usize, Stopped>
     requires { (place < length index.now.parents.now) × (left ≤ levels) }
-    ensures answer { given_of result ≡ given_in (give_all (length out.old) (sound out.old lines)
+    ensures answer { given_of result ≡ given_in (give_all room (sound out.old lines)
         (entry_lines index.now.parents.now index.now.children.now left place)) }
-    ensures list { out.new ≡ (give_all (length out.old) (sound out.old lines)
+    ensures list { out.new ≡ (give_all room (sound out.old lines)
         (entry_lines index.now.parents.now index.now.children.now left place)).list }
 {
     if left == 0 {
@@ -64,7 +68,7 @@ fn entry(
             fault: Fault::TooDeep,
         });
     }
-    if out.len() / 2 <= lines {
+    if room / 2 <= lines {
         return Err(Stopped {
             lines,
             fault: Fault::RoomTooSmall,
@@ -76,29 +80,31 @@ fn entry(
     if index.parents.len() <= first {
         return Ok(lines + 1);
     }
-    folder(index, first, left - 1, out, lines + 1)
+    folder(index, first, left - 1, room, out, lines + 1)
 }
 
 // Internal: the lines of a folder's links from the one at a place on, behind `lines` others; answers how many lines are given then.
+// `room` says how many numbers may be given, two a line; a line that `out` is too short for is counted and not stored.
 #[cycle(entry_folder)]
 pub fn folder(
     index: &Index,
     first: usize,
     left: usize,
+    room: usize,
     out: &mut [u64],
     lines: usize,
 ) -> Result<usize, Stopped>
     requires { (first ≤ length index.now.parents.now) × (left ≤ levels) }
-    ensures answer { given_of result ≡ given_in (give_all (length out.old) (sound out.old lines)
+    ensures answer { given_of result ≡ given_in (give_all room (sound out.old lines)
         (each (entry_lines index.now.parents.now index.now.children.now left) (siblings index.now.parents.now first))) }
-    ensures list { out.new ≡ (give_all (length out.old) (sound out.old lines)
+    ensures list { out.new ≡ (give_all room (sound out.old lines)
         (each (entry_lines index.now.parents.now index.now.children.now left) (siblings index.now.parents.now first))).list }
 {
     // By hand: each link tells where the next one stands, and the first line that cannot be given ends it.
     let mut place = first;
     let mut given = lines;
     while place < index.parents.len() {
-        given = entry(index, place, left, out, given)?;
+        given = entry(index, place, left, room, out, given)?;
         place = index.nexts[place] as usize;
     }
     Ok(given)

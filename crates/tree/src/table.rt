@@ -38,7 +38,7 @@ fn list_from<const N: usize>(index: &Index, first: usize, out: &mut [u64]) -> Re
         out.old (given_of result) out.new }
 {
     count_all::<N>(index, first, out.len())?;
-    folder(index, first, LEVELS, out, 0)
+    folder(index, first, LEVELS, out.len(), out, 0)
 }
 
 // Lists the tree of the first `count` links in the bytes, with arrays for more than that many.

@@ -4,7 +4,7 @@ use Prim.Native.Nat.{◌+◌, ◌-◌}
 use mathlib.Core.Path.{◌≡◌, refl, ◌∙◌}
 use Rattle.std.proofs.Common.{rules, Ok, Err}
 use native.Mathlib.Omega.{arith}
-use lib.ListN.{length, get_or}
+use lib.ListN.{get_or}
 use Rattle.lines.specs.inner.Giving.{sound, given_of}
 use Rattle.lines.proofs.Gives.{told, some_fault, link_too_deep, no_room_for_link, link_given, folder_over, folder_stops, folder_goes_on}
 use Rattle.lines.proofs.+entry_folder.Goals as goal
@@ -13,15 +13,15 @@ pub entry-returns-then-left-eq0 : goal.entry-returns-then-left-eq0
 entry-returns-then-left-eq0 t c =
     let a = c.args in
     let i = a.index.now in
-    let told_now = told _ _ (link_too_deep (length a.out.now) i.parents.now i.children.now a.left a.place a.lines a.out.now c.if-left-eq0.true) in
+    let told_now = told _ _ (link_too_deep a.room i.parents.now i.children.now a.left a.place a.lines a.out.now c.if-left-eq0.true) in
     record { answer = told_now.0; list = told_now.1 }
 
-pub entry-returns-then-out-lines : goal.entry-returns-then-out-lines
-entry-returns-then-out-lines t c =
+pub entry-returns-then-room-lines : goal.entry-returns-then-room-lines
+entry-returns-then-room-lines t c =
     let a = c.args in
     let i = a.index.now in
     let opens = i.indexed.opened a.place c.requires.0 in
-    let told_now = told _ _ (no_room_for_link (length a.out.now) i.parents.now i.children.now a.left a.place a.lines a.out.now c.if-left-eq0.false _ opens c.if-out-lines.true) in
+    let told_now = told _ _ (no_room_for_link a.room i.parents.now i.children.now a.left a.place a.lines a.out.now c.if-left-eq0.false _ opens c.if-room-lines.true) in
     record { answer = told_now.0; list = told_now.1 }
 
 pub entry-returns-then-index-first : goal.entry-returns-then-index-first
@@ -29,8 +29,8 @@ entry-returns-then-index-first t c =
     let a = c.args in
     let i = a.index.now in
     let opens = i.indexed.opened a.place c.requires.0 in
-    let e = link_given (length a.out.now) i.parents.now i.children.now a.left a.place a.lines a.out.now c.if-left-eq0.false (get_or i.firsts.now a.place 0) opens (omega (arith, c.if-out-lines.false)) in
-    let over = folder_over (length a.out.now) i.parents.now i.children.now (a.left - 1) (sound c.put_line.new.out (a.lines + 1)) _ c.if-index-first.true in
+    let e = link_given a.room i.parents.now i.children.now a.left a.place a.lines a.out.now c.if-left-eq0.false (get_or i.firsts.now a.place 0) opens (omega (arith, c.if-room-lines.false)) in
+    let over = folder_over a.room i.parents.now i.children.now (a.left - 1) (sound c.put_line.new.out (a.lines + 1)) _ c.if-index-first.true in
     let told_now = told _ _ over in
     record {
       answer = rw (e, ← c.put_line.ensures) told_now.0;
@@ -42,10 +42,10 @@ entry-returns t c =
     let a = c.args in
     let i = a.index.now in
     let opens = i.indexed.opened a.place c.requires.0 in
-    let e = link_given (length a.out.now) i.parents.now i.children.now a.left a.place a.lines a.out.now c.if-left-eq0.false (get_or i.firsts.now a.place 0) opens (omega (arith, c.if-out-lines.false)) in
+    let e = link_given a.room i.parents.now i.children.now a.left a.place a.lines a.out.now c.if-left-eq0.false (get_or i.firsts.now a.place 0) opens (omega (arith, c.if-room-lines.false)) in
     record {
-      answer = rw (e, ← c.put_line.ensures) (rw c.put_line.auto.out at c.folder.ensures.answer);
-      list = rw (e, ← c.put_line.ensures) (rw c.put_line.auto.out at c.folder.ensures.list);
+      answer = rw (e, ← c.put_line.ensures) c.folder.ensures.answer;
+      list = rw (e, ← c.put_line.ensures) c.folder.ensures.list;
     }
 
 pub folder-returns-in_err-given : goal.folder-returns-in_err-given
@@ -55,9 +55,8 @@ folder-returns-in_err-given t c =
     let l = c.loop-place in
     let inv = l.invariant in
     let next = i.indexed.chained l.place (omega arith) (omega arith) in
-    let answer = rw l.auto.out at c.in_err-given.ensures.answer in
-    let list = rw l.auto.out at c.in_err-given.ensures.list in
-    let stops = folder_stops (length a.out.now) i.parents.now i.children.now a.left (sound l.out l.given) l.place _ (omega arith) next (given_of (Err c.in_err-given.field-0.0)) _ answer list (some_fault _) in
+    let step = c.in_err-given.ensures in
+    let stops = folder_stops a.room i.parents.now i.children.now a.left (sound l.out l.given) l.place _ (omega arith) next (given_of (Err c.in_err-given.field-0.0)) _ step.answer step.list (some_fault _) in
     let passed : c.from_residual.result ≡ Err c.in_err-given.field-0.0 = search rules in
     record { answer = rw (passed, inv.same) stops.0; list = rw inv.same stops.1 }
 
@@ -68,9 +67,8 @@ folder-loop-place-preserved t c =
     let l = c.loop-place in
     let inv = l.invariant in
     let next = i.indexed.chained l.place (omega arith) (omega arith) in
-    let answer = rw l.auto.out at c.in_ok-given.ensures.answer in
-    let list = rw l.auto.out at c.in_ok-given.ensures.list in
-    let goes_on = folder_goes_on (length a.out.now) i.parents.now i.children.now a.left (sound l.out l.given) l.place _ (omega arith) next (given_of (Ok c.in_ok-given.given)) _ answer list refl in
+    let step = c.in_ok-given.ensures in
+    let goes_on = folder_goes_on a.room i.parents.now i.children.now a.left (sound l.out l.given) l.place _ (omega arith) next (given_of (Ok c.in_ok-given.given)) _ step.answer step.list refl in
     record {
       within = next.within;
       same = inv.same ∙ goes_on;
@@ -81,5 +79,5 @@ folder-returns t c =
     let a = c.args in
     let i = a.index.now in
     let l = c.loop-place in
-    let told_now = told _ _ (l.invariant.same ∙ folder_over (length a.out.now) i.parents.now i.children.now a.left _ l.place (omega arith)) in
+    let told_now = told _ _ (l.invariant.same ∙ folder_over a.room i.parents.now i.children.now a.left _ l.place (omega arith)) in
     record { answer = told_now.0; list = told_now.1 }

@@ -14,7 +14,7 @@ decreases-folder l = 2 * l.left + 1
 
 abbrev pub invariant-folder-loop-place : goal.invariant-folder-loop-place
 invariant-folder-loop-place l =
-    let room = length l.initial.out in
+    let room = l.room in
     let parents = l.index.parents.now in
     let children = l.index.children.now in
     record {
