@@ -10,7 +10,7 @@ use Rattle.std.specs.Prelude.{Ok, Err, ◌==◌}
 use Rattle.std.specs.List.{list_any}
 use Rattle.std.proofs.lemmas.List.Folds.{list_any_at, Any-from_list_any}
 use Rattle.std.proofs.lemmas.Grind.{get_or_default_zero}
-use lib.ListN.{length, get_or, set, take, length-take, length-set}
+use lib.ListN.{length, get_or, set, take, length-take}
 use lib.Seq.{get_or-set_same, get_or-set_other, length-take-le, get_or-take}
 use Rattle.order.specs.Order.{Placed, Inserted}
 use Rattle.order.proofs.Cases.{cases}
@@ -24,7 +24,7 @@ same_or_not : {A : Type 0} (m n : ℕ) → (m ≡ n → A) → ((m ≡ n → ⊥
 same_or_not m n same other =
     cases m n (λ l. other (λ e. omega arith)) (λ l. cases n m (λ r. other (λ e. omega arith)) (λ r. same (omega arith)))
 
--- what `every` of the heads says is the same as a place among them where the folder's head stands
+-- a place among the heads where that of a folder stands is the same as a test that one of them passes
 module _ (parents heads : List ℕ) (count folder : ℕ) where
   pub head_at : list_any (λ head. parent_of parents head == folder) (take count heads) ≡ true
       → (k : ℕ) × ((k < count) × (parent_of parents (get_or heads k 0) ≡ folder))
@@ -69,10 +69,10 @@ module _ (parents heads : List ℕ) (count from : ℕ) (h : Heads parents heads 
           let f = h.few in
           next_none parents folder from (omega arith)
           (λ j l m e.
-          let f = head_at parents heads count _ (h.every j l m) in
-          cases f.0 place
-          (λ q. omega (arith, p.lower f.0 q, f.1.1))
-          (λ q. omega (arith, above f.0 q f.1.0, f.1.1)))
+          let w = h.every j l m in
+          cases w.0 place
+          (λ q. omega (arith, p.lower w.0 q, w.1.1))
+          (λ q. omega (arith, above w.0 q w.1.0, w.1.1)))
 
 -- A link more, at the place before those of the heads.
 module _ (parents heads : List ℕ) (count i place : ℕ) (within : i < length parents) (h : Heads parents heads count (i + 1))
@@ -86,10 +86,6 @@ module _ (parents heads : List ℕ) (count i place : ℕ) (within : i < length p
   module _ (size : count ≤ length heads) (l : place < count) (e : parent_of parents (get_or heads place 0) ≡ parent_of parents i) where
     new : List ℕ
     new = set heads place i
-
-    size_new : count ≤ length new
-    unfolding new
-    size_new = omega (arith, size, length-set heads place i)
 
     same_folder : (k : ℕ) → k < count → parent_of parents (get_or new k 0) ≡ parent_of parents (get_or heads k 0)
     unfolding new
@@ -122,16 +118,13 @@ module _ (parents heads : List ℕ) (count i place : ℕ) (within : i < length p
               (λ q. rw (q, get_or-set_same heads place i 0 (omega arith)) (next_self parents i within))
               (λ d. rw (get_or-set_other heads place k i 0 d) (passed k m (other_folder k m d)));
           every = λ j a b.
-              let fits : count ≤ length new = size_new in
               same_or_not j i
-              (λ q. at_head parents new count _ place fits l (same_folder place l ∙ e ∙ ap (parent_of parents) (sym q)))
-              (λ d.
-              let f = head_at parents heads count _ (h.every j (omega arith) b) in
-              at_head parents new count _ f.0 fits f.1.0 (same_folder f.0 f.1.0 ∙ f.1.1));
+              (λ q. (place, (l, same_folder place l ∙ e ∙ ap (parent_of parents) (sym q))))
+              (λ d. let w = h.every j (omega arith) b in (w.0, (w.1.0, same_folder w.0 w.1.0 ∙ w.1.1)));
         }
 
   -- It is the head of a new folder.
-  module _ (new : List ℕ) (size : count < length heads) (other : place < count → parent_of parents (get_or heads place 0) ≡ parent_of parents i → ⊥)
+  module _ (new : List ℕ) (other : place < count → parent_of parents (get_or heads place 0) ≡ parent_of parents i → ⊥)
       (ins : Inserted heads new count place i) where
     higher : (k : ℕ) → place ≤ k → k < count → parent_of parents i < parent_of parents (get_or heads k 0)
     higher = above parents heads count (i + 1) h (parent_of parents i) place p other
@@ -153,13 +146,12 @@ module _ (parents heads : List ℕ) (count i place : ℕ) (within : i < length p
               inserted_each heads new count place i w ins (λ y. NextIn parents (parent_of parents y) i y)
               (λ k l. passed k l (differs k l)) (next_self parents i within);
           every = λ j a b.
-              let fits : count + 1 ≤ length new = omega (arith, size, ins.size) in
               same_or_not j i
-              (λ q. at_head parents new (count + 1) _ place fits (omega arith) (ap (parent_of parents) (ins.here ∙ sym q)))
+              (λ q. (place, (omega arith, ap (parent_of parents) (ins.here ∙ sym q))))
               (λ d.
-              let f = head_at parents heads count _ (h.every j (omega arith) b) in
-              let v = inserted_kept heads new count place i w ins (get_or heads f.0 0) f.0 f.1.0 refl in
-              at_head parents new (count + 1) _ v.0 fits v.1.0 (ap (parent_of parents) v.1.1 ∙ f.1.1));
+              let v = h.every j (omega arith) b in
+              let k = inserted_kept heads new count place i w ins (get_or heads v.0 0) v.0 v.1.0 refl in
+              (k.0, (k.1.0, ap (parent_of parents) k.1.1 ∙ v.1.1)));
         }
 
 -- there are no more heads than links
@@ -186,8 +178,7 @@ module _ (parents heads : List ℕ) (count : ℕ) (few : count ≤ length heads)
         sorted = rw cut_len at (sorted_cut h.sorted);
         first = λ k l. rw (at_cut k l) (h.first k l);
         every = λ i a b.
-            let f = head_at parents heads count _ (h.every i a b) in
-            at_head parents (take count heads) count _ f.0 (omega (arith, cut_len)) f.1.0 (ap (parent_of parents) (at_cut f.0 f.1.0) ∙ f.1.1);
+            let w = h.every i a b in (w.0, (w.1.0, ap (parent_of parents) (at_cut w.0 w.1.0) ∙ w.1.1));
       })
 
   -- what is found among them

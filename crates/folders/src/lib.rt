@@ -7,6 +7,8 @@
 
 ghost use Rattle.std.specs.Prelude.{◌≡◌, ◌+◌, ◌<◌, ◌≤◌, length};
 ghost use Rattle.folders.specs.inner.Folders.{NextIn, Chained, Opened, Sorted, Heads, FindsHead, Indexed};
+ghost use Rattle.folders.specs.inner.OneHead.{one_head};
+ghost use Rattle.std.proofs.Props.{props};
 
 // The links of a table by folder.
 #[derive(Clone, Copy)]
@@ -21,7 +23,7 @@ pub struct Index<'a> {
     // The first link of each folder, sorted by folder.
     pub heads: &'a [u32],
     ghost indexed: { Indexed parents.now children.now nexts.now firsts.now },
-    ghost headed: { Heads parents.now heads.now (length heads.now) 0 },
+    ghost headed: { Heads parents.now heads.now (length heads.now) 0 } by { Prim.hlevel (props, one_head) },
 }
 
 impl Index<'_> {

@@ -47,6 +47,6 @@ returns-in-Err c =
     let f = cut_missing _ _ _ (long _ _ _ _ (omega arith) c.requires.i_in_bounds.1.0) _ _ c.in-Err.ensures in
     let heads = c.requires.i_in_bounds.1.0 in
     let few = heads.few in (
-      put_in _ _ _ _ _ c.requires.i_in_bounds.0 heads f.0 _ (omega arith) f.1 c.insert.ensures,
+      put_in _ _ _ _ _ c.requires.i_in_bounds.0 heads f.0 _ f.1 c.insert.ensures,
       chained_more _ c.args.nexts.now c.args.i _ (omega arith) c.requires.i_in_bounds.1.1 (no_head _ _ _ _ heads _ _ f.0 f.1),
     )

@@ -1,6 +1,5 @@
 -- Inner page: how the links of a folder are found without going through the whole table. No public contract rests on it.
-use Rattle.std.specs.Prelude.{ℕ, ◌+◌, ◌≤◌, ◌<◌, ◌≡◌, ◌==◌, true, List, length, get_or, take, drop, Result, Ok, Err}
-use Rattle.std.specs.List.{list_any}
+use Rattle.std.specs.Prelude.{ℕ, ◌+◌, ◌≤◌, ◌<◌, ◌≡◌, List, length, get_or, drop, Result, Ok, Err}
 use Rattle.order.specs.Order.{Rising, Placed}
 use Rattle.folders.specs.Lines.{places_from}
 
@@ -45,7 +44,7 @@ pub record Heads (parents heads : List ℕ) (count from : ℕ) : Type 0 where
   pub sorted : Sorted parents heads count
   pub first : (k : ℕ) → k < count → NextIn parents (parent_of parents (get_or heads k 0)) from (get_or heads k 0)
   pub every : (i : ℕ) → from ≤ i → i < length parents
-      → list_any (λ head. parent_of parents head == parent_of parents i) (take count heads) ≡ true
+      → (k : ℕ) × ((k < count) × (parent_of parents (get_or heads k 0) ≡ parent_of parents i))
 
 -- the index of a table: next links and first links
 pub record Indexed (parents children nexts firsts : List ℕ) : Type 0 where
