@@ -1,19 +1,20 @@
 // Images written into a lent buffer: the header's, and that of a block of any kind.
 //
 // Calls: write_header, write_block. Crate `volume` calls them after all its checks, so each requires that its image fits the buffer
-// and that each value fits its field. Every byte outside the image stays as it was. There is a writer for each layout, since each
+// and that each length fits its field. Every byte outside the image stays as it was. There is a writer for each layout, since each
 // has fields of its own.
 #![tactic(auto)]
 
 ghost use Rattle.std.specs.Prelude.{◌≡◌, [], ◌∷◌, ◌++◌, ◌+◌, ◌≤◌, ◌<◌, length};
 ghost use Rattle.number.specs.Number.{le_bytes, part, put};
 ghost use Rattle.crc32.specs.Crc.{crc};
-ghost use Rattle.format.specs.Layout.{Fit, laid, sealed};
-ghost use Rattle.format.specs.Blocks.{link_block, widths, kind_of, fields, image};
+ghost use Rattle.format.specs.Layout.{laid, sealed};
+ghost use Rattle.format.specs.Blocks.{link_block, widths, image};
 ghost use Rattle.format.specs.Headers.{header_fields, header_image};
 ghost use Rattle.format.specs.Asked.{asked};
 ghost use Rattle.format.specs.declared.new_block.NewBlock.TheVariants.{Inode as NewInode, Xattr as NewXattr, RemovedXattr as NewRemovedXattr};
 ghost use Rattle.format.specs.declared.new_block.NewBlock.TheVariants.{Data as NewData, Rename as NewRename, Table as NewTable};
+ghost use Rattle.encode.specs.inner.Lengths.{LengthsFit};
 
 use format::kind::Kind;
 use format::new_block::{Data, Inode, Link, NewBlock, RemovedXattr, Rename, Table, Xattr};
@@ -50,7 +51,7 @@ fn write_header_fields(buf: &mut [u8], id: &[u8], sequence: u64, previous: &[u8]
 // Internal: writes a block.
 pub fn write_block(buf: &mut [u8], offset: usize, block: NewBlock<'_>)
     requires in_bounds { offset + length (image (asked block)) ≤ length buf.old }
-    requires values_fit { Fit (widths (kind_of (asked block))) (fields (asked block)) }
+    requires lengths_fit { LengthsFit (asked block) }
     ensures { buf.new ≡ put buf.old offset (image (asked block.entry)) }
 {
     match block {

@@ -9,6 +9,7 @@ use Rattle.refusal.proofs.Numbers.{number_above_zero}
 use Rattle.format.specs.Blocks.{image}
 use Rattle.format.specs.Asked.{asked}
 use Rattle.format.proofs.Images.{length-image}
+use Rattle.encode.proofs.Lengths.{lengths_fit}
 use Rattle.request.proofs.Rules.{request_sound}
 use Rattle.volume.specs.Reading.{mark_after}
 use Rattle.volume.specs.Writing.{append_answer, append_buffer}
@@ -28,7 +29,7 @@ returns-in-Err-clause-buffer c = rw (← c.in-Err.ensures.fault, ne_eqb _ _ (num
 pub write_block-requires : goal.write_block-requires
 write_block-requires c =
     let passed = append-passed _ _ _ (sym c.in_default.ensures.fault) in
-    record { in_bounds = passed.fits; values_fit = (request_sound _ c.in_default.ensures.sized passed.own).fit }
+    record { in_bounds = passed.fits; lengths_fit = lengths_fit _ (request_sound _ c.in_default.ensures.sized passed.own).fit }
 
 pub overflow_add-end : goal.overflow_add-end
 overflow_add-end c =
