@@ -1,11 +1,11 @@
 -- The entries of the sixteen rows: the first 256 are the row itself, and each other follows from the one a row before it.
--- So what `Rows::new` makes of a linear row are its rows.
+-- So what `fill_rows` makes of a row are its rows, and of a linear row `Rows::new` makes what `run` requires.
 use Prim.Native.Nat.{ℕ, suc, ◌+◌, ◌-◌, ◌*◌, ◌/◌, ◌%◌, ◌≤◌, ◌<◌}
 use mathlib.Core.Path.{◌≡◌, refl, sym, ap, ap₂, subst, ◌∙◌}
 use mathlib.Core.List.{List, ◌++◌}
 use native.Mathlib.Omega.{arith}
-use lib.ListN.{length, get_or, set, take, drop, length-append, length-drop}
-use lib.Seq.{ext_get_or, get_or-take, take_at, take_all, take-set-le, length-take-le}
+use lib.ListN.{length, get_or, set, drop}
+use lib.Seq.{ext_get_or, get_or-take, take_at, take-set-le, length-take-le}
 use Rattle.slicing.specs.inner.Slicing.{step, zeros, entry, rows_from, first_row, Linear, Rows}
 use Rattle.slicing.proofs.Zeros.{zeros_last}
 use Rattle.slicing.proofs.Values.{length-values, values_at, Filling, filling_more, filling_end}
@@ -56,6 +56,11 @@ rows_filled {row} {slice} linear e =
     let first : first_row slice ≡ row = ap first_row e ∙ rows_first linear in
     record { linear = subst Linear (sym first) linear; filled = e ∙ ap rows_from (sym first) }
 
+-- What is filled from a row that is written at the beginning are its rows.
+pub rows_made : (row front old : List ℕ) {slice : List ℕ} → length row ≡ 256 → front ≡ row
+    → slice ≡ rows_from (first_row (front ++ drop 256 old)) → slice ≡ rows_from row
+rows_made row front old long e filled = filled ∙ ap rows_from (take_at front (drop 256 old) 256 (ap length e ∙ long) ∙ e)
+
 -- What stands in a slice that holds the rows.
 module _ {slice : List ℕ} (rows : Rows slice) where
   pub slice_at : (k b : ℕ) → k < 16 → b < 256
@@ -69,29 +74,22 @@ pub record RowsUpTo (row slice : List ℕ) (count : ℕ) : Type 0 where
   pub first : first_row slice ≡ row
   pub entries : Filling (entry row) 4096 slice count
 
-pub rows_start : (row front old : List ℕ) → length row ≡ 256 → front ≡ row → length old ≡ 4096 → RowsUpTo row (front ++ drop 256 old) 256
-rows_start row front old long e size =
-    let whole : length front ≡ 256 = ap length e ∙ long in
-    let shown : take 256 (front ++ drop 256 old) ≡ row = take_at front (drop 256 old) 256 whole ∙ e in
+pub rows_start : (slice : List ℕ) → length slice ≡ 4096 → RowsUpTo (first_row slice) slice 256
+rows_start slice e =
     record {
-      first = shown;
+      first = refl;
       entries =
-          record {
-            long = simp (length-append, length-drop) (omega arith);
-            done = λ k h.
-                sym (get_or-take 256 (front ++ drop 256 old) k 0 h)
-                ∙ ap (λ (l : List ℕ). get_or l k 0) shown ∙ sym (entry_first row k h);
-          };
+          record { long = e; done = λ k h. sym (entry_first (first_row slice) k h ∙ get_or-take 256 slice k 0 h) };
     }
 
 module _ (row slice : List ℕ) (i : ℕ) (so_far : RowsUpTo row slice i) where
-  pub rows_more : (value : ℕ) → 256 ≤ i → i < 4096 → value ≡ step (first_row row) (get_or slice (i - 256) 0) 0 → length row ≡ 256
+  pub rows_more : (value : ℕ) → 256 ≤ i → i < 4096 → value ≡ step (first_row slice) (get_or slice (i - 256) 0) 0
       → RowsUpTo row (set slice i value) (i + 1)
-  rows_more value past more e long =
+  rows_more value past more e =
       let place : 256 + (i - 256) ≡ i = omega arith in
       let known : get_or slice (i - 256) 0 ≡ entry row (i - 256) = so_far.entries.done (i - 256) (omega arith) in
       let next : value ≡ entry row i =
-      e ∙ ap₂ (λ (l : List ℕ) (x : ℕ). step l x 0) (take_all 256 row (omega arith)) known
+      e ∙ ap₂ (λ (l : List ℕ) (x : ℕ). step l x 0) so_far.first known
       ∙ sym (entry_next row (i - 256)) ∙ ap (entry row) place in
       record {
         first = take-set-le 256 slice i value past ∙ so_far.first;

@@ -1,13 +1,14 @@
 // A checksum's register over many bytes, sixteen at a time, by sixteen rows of entries: slicing by 16.
 //
-// It knows no polynomial: the caller gives the first row, `Rows::new` makes the fifteen others from it, and `run` takes
-// bytes by them. A value of the type is lent, since an array of constants would be built anew at every use. Both calls are
-// internal: `new` requires a linear row (specs/inner/Slicing.antt). They are meant for the crate crc32.
+// It knows no polynomial: the caller gives the first row, `fill_rows` makes the fifteen others from it, `Rows::new` the whole
+// of them, and `run` takes bytes by them. A value of the type is lent, since an array of constants would be built anew at every
+// use. The calls are internal: `new` requires a linear row (specs/inner/Slicing.antt), and `fill_rows` takes any. They are meant
+// for the crate crc32.
 #![tactic(auto)]
 
 ghost use Rattle.std.specs.Prelude.{◌≡◌, ◌≤◌, ◌<◌, length, get_or};
 ghost use mathlib.Core.List.{foldl};
-ghost use Rattle.slicing.specs.inner.Slicing.{step, zeros, first_row, Linear, Rows};
+ghost use Rattle.slicing.specs.inner.Slicing.{step, zeros, rows_from, first_row, Linear, Rows};
 
 // Sixteen rows of 256 entries: a linear one, and the fifteen that follow from it. The entries are public for contracts to name.
 #[derive(Drop)]
@@ -17,18 +18,14 @@ pub struct Rows {
 }
 
 impl Rows {
-    // Internal: the rows of a first one. An entry has one zero byte more after it than the entry that stands a row before
-    // it, so it is a step away from that one.
+    // Internal: the rows of a first one.
     pub fn new(row: &[u32; 256]) -> Rows
         requires { Linear row.now }
         ensures { first_row result.entries ≡ row.now }
     {
         let mut entries = [0u32; 4096];
         entries[..256].copy_from_slice(row);
-        // By an index: the entries read and written are parts of one array, which no iterator lends twice.
-        for i in 256usize..4096 {
-            entries[i] = byte_step(row, entries[i - 256], 0);
-        }
+        fill_rows(&mut entries);
         Rows { entries }
     }
 
@@ -82,6 +79,18 @@ impl Rows {
             ≡ zeros (step (first_row self.now.entries)) after (get_or (first_row self.now.entries) byte 0) }
     {
         self.entries[after * 256 + byte as usize]
+    }
+}
+
+// Internal: fills the fifteen rows after the first. An entry has one zero byte more after it than the entry that stands a
+// row before it, so it is a step away from that one.
+pub fn fill_rows(rows: &mut [u32])
+    requires { length rows.old ≡ 4096 }
+    ensures { rows.new ≡ rows_from (first_row rows.old) }
+{
+    // By an index: the entries read and written are parts of one slice, which no iterator lends twice.
+    for i in 256usize..4096 {
+        rows[i] = byte_step(rows, rows[i - 256], 0);
     }
 }
 
