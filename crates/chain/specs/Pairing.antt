@@ -1,5 +1,5 @@
 -- What the check of a pair of volumes answers: the first volume's refusal, else the second's, else whether the second follows the first.
-use Rattle.std.specs.Prelude.{ℕ, suc, Bool, cond, ◌&&◌, List, eqb, Ok, Err}
+use Rattle.std.specs.Prelude.{ℕ, suc, Bool, cond, ◌&&◌, List, eqb, Result, Ok, Err, ⊤}
 use Rattle.number.specs.inner.Same.{same_bytes}
 use Rattle.refusal.specs.Refusal.{refusal_of, Refusal}
 use Rattle.fips180.specs.Hash.{sha256}
@@ -30,3 +30,8 @@ refusal_in (Ok tt) = refusal_of 0
 refusal_in (Err (FirstRefused rejected)) = rejected.refusal
 refusal_in (Err (SecondRefused rejected)) = rejected.refusal
 refusal_in (Err DoesNotFollow) = refusal_of 23
+
+-- and that which an answer stands for: with the number 0 where nothing is refused
+abbrev pub refusal_told : Result ⊤ Refusal → Refusal
+refusal_told (Ok tt) = refusal_of 0
+refusal_told (Err refusal) = refusal

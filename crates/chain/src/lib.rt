@@ -1,12 +1,13 @@
 // Whether a volume follows another: the check of a neighbouring pair of a set.
 //
-// Public call: `pair`, whose error becomes a refusal by `From`. Both volumes are checked whole before their headers are compared.
+// Public calls: `pair`, and `refusal_of` for the refusal of its answer; `From` makes one of an error alone. Both volumes are checked
+// whole before their headers are compared.
 // Callers: exchange, for whoever keeps copies of sets and wants to know that no volume is missing or from another set.
 #![tactic(auto)]
 
 ghost use Rattle.std.specs.Prelude.{◌≡◌, suc, eqb, Err};
 ghost use Rattle.volume.specs.Heading.{header_fault, sequence_of};
-ghost use Rattle.chain.specs.Pairing.{follows, pair_answer, refusal_in};
+ghost use Rattle.chain.specs.Pairing.{follows, pair_answer, refusal_in, refusal_told};
 
 use refusal::{Fault, Refusal};
 use volume::Rejected;
@@ -67,6 +68,16 @@ pub fn pair(first: &[u8], second: &[u8]) -> Result<(), PairFault>
                 }
             }
         },
+    }
+}
+
+// Why a pair is refused. Where the second volume follows the first nothing is, which stands for the number 0.
+pub fn refusal_of(pairing: Result<(), PairFault>) -> Result<(), Refusal>
+    ensures { refusal_told result ≡ refusal_in pairing }
+{
+    match pairing {
+        Ok(()) => Ok(()),
+        Err(fault) => Err(fault.into()),
     }
 }
 
