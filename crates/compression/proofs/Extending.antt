@@ -81,23 +81,24 @@ beginning (suc n) W =
     ∙ ap (take (length W)) (beginning n more) ∙ take-append_seam W (next_word W ∷ [])
 
 -- a room that has words, before the first round, with eight words more or as it is
-pub words_first : (room : List ℕ) → HasWords (take 16 room) 0 room
+pub words_first : (room : List ℕ) → length room ≡ 64 → HasWords (take 16 room) 0 room
 unfolding extended
-words_first room = record { there = refl }
+words_first room l = record { long = l; there = refl }
 
 pub words_kept : (first room : List ℕ) (t : ℕ) → t % 8 ≡ 0 → t < 16 → HasWords first t room → HasWords first (t + 8) room
 words_kept first room t d h has =
     let before : t - 16 ≡ 0 = omega arith in
     let after : t + 8 - 16 ≡ 0 = omega arith in
-    record { there = rw after (rw before at has.there) }
+    record { long = has.long; there = rw after (rw before at has.there) }
 
-pub words_more : (first room next : List ℕ) (t : ℕ) → 16 ≤ t → take (t + 8) next ≡ extended 8 (take t room)
+pub words_more : (first room next : List ℕ) (t : ℕ) → 16 ≤ t → length next ≡ 64 → take (t + 8) next ≡ extended 8 (take t room)
     → HasWords first t room → HasWords first (t + 8) next
-words_more first room next t h e has =
+words_more first room next t h l e has =
     let all : 16 + (t - 16) ≡ t = omega arith in
     let more : 16 + (t + 8 - 16) ≡ t + 8 = omega arith in
     let sum : t - 16 + 8 ≡ t + 8 - 16 = omega arith in
     record {
+      long = l;
       there =
           ap (λ (n : ℕ). take n next) more ∙ e ∙ ap (extended 8) (ap (λ (n : ℕ). take n room) (sym all) ∙ has.there)
           ∙ sym (extended_add (t - 16) 8 first) ∙ ap (λ (n : ℕ). extended n first) sum;
@@ -109,12 +110,13 @@ part-take list offset len n h l =
     sym (part-append (take n list) (drop n list) offset len (omega (arith, length-take-le n list l)))
     ∙ ap (λ (whole : List ℕ). part whole offset len) (take-append-drop n list)
 
-pub words_there : (first room : List ℕ) (t : ℕ) → length first ≡ 16 → length room ≡ 64 → t + 8 ≤ 64 → HasWords first (t + 8) room
+pub words_there : (first room : List ℕ) (t : ℕ) → length first ≡ 16 → t + 8 ≤ 64 → HasWords first (t + 8) room
     → part room t 8 ≡ part (extended 48 first) t 8
-words_there first room t l room_long h has =
+words_there first room t l h has =
     let n : ℕ = t + 8 - 16 in
     let words : List ℕ = extended n first in
     let long : length words ≡ 16 + n = length-extended n first ∙ ap (λ (k : ℕ). k + n) l in
+    let room_long : length room ≡ 64 = has.long in
     let whole : extended 48 first ≡ extended (48 - n) words = split n (omega arith) ∙ extended_add n (48 - n) first in
     let longer : length words ≤ length (extended (48 - n) words) = omega (arith, length-extended (48 - n) words) in
     sym (part-take room t 8 (16 + n) (omega arith) (omega arith))

@@ -8,7 +8,7 @@ use Rattle.compression.proofs.InTurns.{rounds_turn, rounds_end}
 use Rattle.compression.proofs.rounds.all_rounds.Goals as goal
 
 pub loop-turn-init : goal.loop-turn-init
-loop-turn-init c = record { words = words_first c.args.schedule.now; left = refl }
+loop-turn-init c = record { words = words_first c.args.schedule.now (omega arith); left = refl }
 
 pub loop-turn-preserved : goal.loop-turn-preserved
 loop-turn-preserved c =
@@ -20,7 +20,7 @@ loop-turn-preserved c =
     let long : length words ≡ 16 = length-take-le 16 room (omega arith) in
     let all : length (extended 48 words) ≡ 64 = schedule-length room (omega arith) in
     let has = c.next_words.ensures words head.invariant.words in
-    let there = words_there words _ t long c.next_words.array_long (omega arith) has in
+    let there = words_there words _ t long (omega arith) has in
     let turn = rounds_turn head.v _ _ K (extended 48 words) _ t (omega (arith, K-long)) (omega arith) there c.eight_rounds-v.ensures head.invariant.left in
     record { words = rw more has; left = rw more turn }
 
