@@ -9,7 +9,7 @@ use lib.Seq.{length-take-le}
 use Rattle.std.proofs.lemmas.List.{drop-replicate}
 use borrow.Rule.Slice.PartMut.{put_mid}
 use Rattle.std.specs.Int.{bytes_high_first}
-use Rattle.number.specs.Number.{put}
+use Rattle.number.specs.Number.{le_bytes, part, put}
 use Rattle.sha256.proofs.Endian.{high_first, lowest_eight, part_written}
 use Rattle.number.proofs.Put.{put_fits, put_next, part_put, length-put, put-set}
 use Rattle.fips180.specs.Padding.{be_bytes, zero_bytes, padding}
@@ -72,11 +72,12 @@ with_last : (used more at count last : ℕ) → used ≡ at → more ≡ count �
 with_last used more at count last e f g = omega arith
 
 -- the same for the last bytes of a message, by what each write left
-last_block : (held : List ℕ) (fed used len : ℕ) {bytes s t u : List ℕ} → length held ≡ 64 → used ≡ fed % 64
-    → len ≡ used + (9 + zero_bytes used) → bytes ≡ take used held → s ≡ put (zeros 128) 0 bytes → t ≡ put s used (0x80 ∷ [])
-    → u ≡ put t (len - 8) (be_bytes 8 (8 * fed)) → take (fed % 64 + (9 + zero_bytes (fed % 64))) u ≡ take (fed % 64) held ++ padding fed
-unfolding padding
-last_block held fed used len {bytes} {s} {t} {u} l i n e f g h =
+pub last_block : (held : List ℕ) (fed used len : ℕ) {start bytes s t u : List ℕ} → length held ≡ 64 → start ≡ zeros 128
+    → used ≡ fed % 64 → len ≡ used + (9 + zero_bytes used) → bytes ≡ part held 0 used → s ≡ put start 0 bytes
+    → t ≡ put s used (le_bytes 1 0x80) → u ≡ put t (len - 8) (be_bytes 8 (8 * fed))
+    → (length u ≡ 128) × (take (fed % 64 + (9 + zero_bytes (fed % 64))) u ≡ take (fed % 64) held ++ padding fed)
+unfolding le_bytes padding
+last_block held fed used len {start} {bytes} {s} {t} {u} l z i n e f g h =
     let last : List ℕ = be_bytes 8 (8 * fed) in
     let eight : length last ≡ 8 = length-be_bytes 8 (8 * fed) in
     let there : bytes ≡ take (fed % 64) held = e ∙ ap (λ (k : ℕ). take k held) i in
@@ -88,15 +89,22 @@ last_block held fed used len {bytes} {s} {t} {u} l i n e f g h =
     = with_last (fed % 64) (zero_bytes (fed % 64)) _ _ _ (sym long) (same_zeros fed) eight in
     let fits : length bytes + 1 + zero_bytes fed + length last ≤ 128
     = rw (long, eight) (two_blocks fed) in
-    ap (λ (k : ℕ). take k u) all
-    ∙ padded_last 128 (zero_bytes fed) 0x80 bytes last fits f (g ∙ ap (λ (k : ℕ). put s k (0x80 ∷ [])) at) (h ∙ ap (λ (k : ℕ). put t k last) end)
-    ∙ ap (λ (front : List ℕ). front ++ (0x80 ∷ (zeros (zero_bytes fed) ++ last))) there
+    let wide : length u ≡ 128
+    = ap length h ∙ length-put t (len - 8) last ∙ ap length g ∙ length-put s used (0x80 ∷ []) ∙ ap length f ∙ length-put start 0 bytes ∙ ap length z
+    ∙ length-replicate {A = ℕ} 128 0 in (
+      wide,
+      ap (λ (k : ℕ). take k u) all
+          ∙ padded_last 128 (zero_bytes fed) 0x80 bytes last fits (f ∙ ap (λ (o : List ℕ). put o 0 bytes) z)
+          (g ∙ ap (λ (k : ℕ). put s k (0x80 ∷ [])) at) (h ∙ ap (λ (k : ℕ). put t k last) end)
+          ∙ ap (λ (front : List ℕ). front ++ (0x80 ∷ (zeros (zero_bytes fed) ++ last))) there,
+    )
 
 -- the three parts that are written one after the other
 pub padded_by : (held first last : List ℕ) (fed used end : ℕ) → length held ≡ 64 → used ≡ fed % 64 → end ≡ used + (9 + zero_bytes used)
     → first ≡ take used held → last ≡ bytes_high_first 8 (fed * 8 % 2 ^ 64)
-    → take (fed % 64 + (9 + zero_bytes (fed % 64))) (put_mid (end - 8) (end - (end - 8)) (set (put_mid 0 used (zeros 128) first) used 0x80) last)
-    ≡ take (fed % 64) held ++ padding fed
+    → let written : List ℕ = put_mid (end - 8) (end - (end - 8)) (set (put_mid 0 used (zeros 128) first) used 0x80) last in
+    (length written ≡ 128) × (take (fed % 64 + (9 + zero_bytes (fed % 64))) written ≡ take (fed % 64) held ++ padding fed)
+unfolding le_bytes
 padded_by held first last fed used end l i n e f =
     let room : length (zeros 128) ≡ 128 = length-replicate {A = ℕ} 128 0 in
     let long : length first ≡ used = ap length e ∙ length-take-le used held (omega arith) in
@@ -108,7 +116,7 @@ padded_by held first last fed used end l i n e f =
     let kept : length begun ≡ 128 = ap length one ∙ length-put (zeros 128) 0 first ∙ room in
     let marked : List ℕ = set begun used 0x80 in
     let kept2 : length marked ≡ 128 = length-set begun used 0x80 ∙ kept in
-    last_block held fed used end l i n e one (put-set begun used 0x80 (omega arith))
+    last_block held fed used end l refl i n e one (put-set begun used 0x80 (omega arith))
     (part_written marked (end - 8) (end - (end - 8)) last wide (omega arith) ∙ ap (put marked (end - 8)) eight)
 
 -- the part of the last bytes that is hashed
