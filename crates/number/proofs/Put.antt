@@ -8,7 +8,7 @@ use mathlib.Mathlib.Data.Bool.Basic.{dichotomy}
 use native.Mathlib.Omega.{arith}
 use lib.Dec.{leb}
 use lib.ListN.{length, take, drop, set, length-append, length-take, length-drop, take-append-drop}
-use lib.Seq.{drop-drop, length-take-le, take_at, drop_at, set_split}
+use lib.Seq.{paste, paste-zero, take-length, drop-drop, length-take-le, take_at, drop_at, set_split}
 use borrow.Author.Tests.{le-leb, lt-leb, leb-true, leb-false}
 use borrow.Rule.Slice.PartMut.{put_mid}
 use Rattle.std.proofs.lemmas.Slice.{take-put_mid_below, take-put_mid, drop-put_mid}
@@ -85,3 +85,8 @@ pub put-set : (old : List ℕ) (at value : ℕ) → at < length old → set old 
 put-set old at value h =
     let k : at + 1 ≤ length old = omega arith in
     set_split old at value h ∙ sym (put_fits old at (value ∷ []) k ∙ rw add-one)
+
+-- a copy that is complete; one of nothing changes nothing, wherever it stands
+pub put_paste : (old : List ℕ) (at : ℕ) (new : List ℕ) → length new ≤ length old - at → paste old at new (length new) ≡ put old at new
+put_paste old at [] h = sym (paste-zero old at []) ∙ sym (put_nothing old at)
+put_paste old at (b ∷ new) h = rw (take-length, append_assoc, ← put_fits old at (b ∷ new) (omega arith))

@@ -5,7 +5,7 @@
 // Every crate that reads or writes a field of a volume calls them.
 #![tactic(auto)]
 
-ghost use Rattle.std.specs.Prelude.{◌≡◌, ◌≤◌, length, IfSome};
+ghost use Rattle.std.specs.Prelude.{◌≡◌, ◌-◌, ◌≤◌, length, IfSome};
 ghost use Rattle.number.specs.Number.{le, le_bytes, part, number_at, put};
 ghost use Rattle.number.specs.inner.Same.{same_bytes};
 
@@ -74,12 +74,23 @@ pub fn write_u64(buf: &mut [u8], at: usize, value: u64)
 }
 
 // Copies `bytes` into the buffer from `at` on. Not by get_mut: the end might not fit a usize, so it would have to be tested all the same.
-#[tactic(auto, using(crate::proofs::Put::put_mid_fits, crate::proofs::Put::put_past))]
+#[tactic(auto, using(crate::proofs::Put::put_past))]
 pub fn write_bytes(buf: &mut [u8], at: usize, bytes: &[u8])
     ensures { buf.new ≡ put buf.old at bytes.now }
 {
     if at <= buf.len() && bytes.len() <= buf.len() - at {
-        buf[at..at + bytes.len()].copy_from_slice(bytes);
+        copy(buf, at, bytes);
+    }
+}
+
+// Copies the bytes, for which there is room. Byte by byte: copy_from_slice is a call of memmove, which takes longer than to store a few
+// bytes, and which a program that links the library would have to bring along.
+fn copy(buf: &mut [u8], at: usize, bytes: &[u8])
+    requires { (at ≤ length buf.old) × (length bytes.now ≤ length buf.old - at) }
+    ensures { buf.new ≡ put buf.old at bytes.now }
+{
+    for (i, byte) in bytes.iter().enumerate() {
+        buf[at + i] = *byte;
     }
 }
 
