@@ -48,7 +48,8 @@ fn write_header_fields(buf: &mut [u8], id: &[u8], sequence: u64, previous: &[u8]
     number::write_bytes(buf, 44, previous);
 }
 
-// Internal: writes a block.
+// Internal: writes a block. Inlined, so that a kind that is known is not asked for.
+#[inline(always)]
 pub fn write_block(buf: &mut [u8], offset: usize, block: NewBlock<'_>)
     requires in_bounds { offset + length (image (asked block)) ≤ length buf.old }
     requires lengths_fit { LengthsFit (asked block) }

@@ -142,7 +142,8 @@ fn inode_fault(
     block::inode::rest_fault(mode, size, rest)
 }
 
-// Internal: the first fault of a block.
+// Internal: the first fault of a block. Inlined, so that a kind that is known is not asked for.
+#[inline(always)]
 pub fn request_fault(block: NewBlock<'_>) -> Result<(), Fault>
     ensures fault { fault_number result ≡ first_fault (request_order (asked block.entry)) }
     ensures sized { Sized (asked block.entry) }

@@ -19,7 +19,9 @@ use request::request_fault;
 use texts::refusal_of;
 
 impl Bookmark {
-    // Appends a block: the bookmark after it, or the refusal. Its fields are sized, refused or not.
+    // Appends a block: the bookmark after it, or the refusal. Its fields are sized, refused or not. Inlined, as what it calls: where the
+    // kind is known the block is not laid into memory, and nothing asks for its kind.
+    #[inline(always)]
     pub fn append(self, buf: &mut [u8], block: NewBlock<'_>) -> Result<Bookmark, Refusal>
         ensures answer { result ≡ append_answer (length buf.old) self (asked block.entry) }
         ensures buffer { buf.new ≡ append_buffer buf.old self (asked block.entry) }
@@ -36,6 +38,7 @@ impl Bookmark {
 
 // The first fault of an append to a buffer of `room` bytes: that of the place, then that of what is asked for by itself, then that of
 // the time and the room. What is asked for is checked wherever it is to stand, since that also says that its fields are sized.
+#[inline(always)]
 fn append_fault(mark: Bookmark, block: NewBlock<'_>, room: usize) -> Result<(), Fault>
     ensures fault { fault_number result ≡ append_fault room mark (asked block.entry) }
     ensures sized { Sized (asked block.entry) }
