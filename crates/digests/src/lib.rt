@@ -93,7 +93,9 @@ fn hand_out(digest: &[u8; 32], out: &mut [u8]) -> Result<(), Fault>
     Ok(())
 }
 
-// The words at the beginning of the state's bytes. Field by field: an array of them would only be taken apart again.
+// The words at the beginning of the state's bytes. Field by field: an array of them would only be taken apart again. Inlined, so that
+// no word is asked for the length of the bytes again.
+#[inline(always)]
 fn read_words(state: &[u8]) -> Words
     ensures { result ≡ words_of state.now }
 {
@@ -109,7 +111,8 @@ fn read_words(state: &[u8]) -> Words
     }
 }
 
-// The state in the first of the lent bytes.
+// The state in the first of the lent bytes. Inlined: what is returned in memory is copied.
+#[inline(always)]
 fn read_state(state: &[u8]) -> Digest
     requires { 104 ≤ length state.now }
     ensures { result ≡ state_of state.now }
