@@ -7,6 +7,8 @@ use std::io;
 use std::rt::Files;
 use volume::Bookmark;
 
+// Not inlined: its buffer would stand in the frame of the caller, beside that of a call.
+#[inline(never)]
 fn row(rt: &(impl Print + Eprint + Files), name: &str) -> io::Result<()> {
     let mut buf = [0u8; 65536];
     let n = load(rt, name.as_bytes(), &mut buf)?;
