@@ -80,29 +80,37 @@ beginning (suc n) W =
     sym (take-take (length W) (length more) (extended n more) longer)
     ∙ ap (take (length W)) (beginning n more) ∙ take-append_seam W (next_word W ∷ [])
 
--- a room that has words, before the first round, with eight words more or as it is
-pub words_first : (room : List ℕ) → length room ≡ 64 → HasWords (take 16 room) 0 room
+-- The words that are there, in a list of any length: before the first round, in a list that stays, and with eight words more.
+pub there_first : (room : List ℕ) → take (16 + (0 - 16)) room ≡ extended (0 - 16) (take 16 room)
 unfolding extended
-words_first room l = record { long = l; there = refl }
+there_first room = refl
 
-pub words_kept : (first room : List ℕ) (t : ℕ) → t % 8 ≡ 0 → t < 16 → HasWords first t room → HasWords first (t + 8) room
-words_kept first room t d h has =
+pub there_kept : (first room : List ℕ) (t : ℕ) → t % 8 ≡ 0 → t < 16 → take (16 + (t - 16)) room ≡ extended (t - 16) first
+    → take (16 + (t + 8 - 16)) room ≡ extended (t + 8 - 16) first
+there_kept first room t d h there =
     let before : t - 16 ≡ 0 = omega arith in
     let after : t + 8 - 16 ≡ 0 = omega arith in
-    record { long = has.long; there = rw after (rw before at has.there) }
+    rw after (rw before at there)
 
-pub words_more : (first room next : List ℕ) (t : ℕ) → 16 ≤ t → length next ≡ 64 → take (t + 8) next ≡ extended 8 (take t room)
-    → HasWords first t room → HasWords first (t + 8) next
-words_more first room next t h l e has =
+pub there_more : (first room next : List ℕ) (t : ℕ) → 16 ≤ t → take (t + 8) next ≡ extended 8 (take t room)
+    → take (16 + (t - 16)) room ≡ extended (t - 16) first → take (16 + (t + 8 - 16)) next ≡ extended (t + 8 - 16) first
+there_more first room next t h e there =
     let all : 16 + (t - 16) ≡ t = omega arith in
     let more : 16 + (t + 8 - 16) ≡ t + 8 = omega arith in
     let sum : t - 16 + 8 ≡ t + 8 - 16 = omega arith in
-    record {
-      long = l;
-      there =
-          ap (λ (n : ℕ). take n next) more ∙ e ∙ ap (extended 8) (ap (λ (n : ℕ). take n room) (sym all) ∙ has.there)
-          ∙ sym (extended_add (t - 16) 8 first) ∙ ap (λ (n : ℕ). extended n first) sum;
-    }
+    ap (λ (n : ℕ). take n next) more ∙ e ∙ ap (extended 8) (ap (λ (n : ℕ). take n room) (sym all) ∙ there)
+    ∙ sym (extended_add (t - 16) 8 first) ∙ ap (λ (n : ℕ). extended n first) sum
+
+-- So a room for sixty-four words has them, before the first round, with eight words more or as it is.
+pub words_first : (room : List ℕ) → length room ≡ 64 → HasWords (take 16 room) 0 room
+words_first room l = record { long = l; there = there_first room }
+
+pub words_kept : (first room : List ℕ) (t : ℕ) → t % 8 ≡ 0 → t < 16 → HasWords first t room → HasWords first (t + 8) room
+words_kept first room t d h has = record { long = has.long; there = there_kept first room t d h has.there }
+
+pub words_more : (first room next : List ℕ) (t : ℕ) → 16 ≤ t → length next ≡ 64 → take (t + 8) next ≡ extended 8 (take t room)
+    → HasWords first t room → HasWords first (t + 8) next
+words_more first room next t h l e has = record { long = l; there = there_more first room next t h e has.there }
 
 -- those for eight rounds are those of the whole schedule
 part-take : (list : List ℕ) (offset len n : ℕ) → offset + len ≤ n → n ≤ length list → part (take n list) offset len ≡ part list offset len

@@ -1,5 +1,5 @@
 // What is worked out with a counter, once for positions of a file and for offsets in a volume. Each call keeps to one kind, so
-// that no physical offset can stand in for a position: what leads from a counter to its number and back (`numbers`) is out of
+// that no physical offset can stand in for a position: what leads from one of these to its number and back (`numbers`) is out of
 // reach of other crates. Lengths and differences are plain numbers.
 ghost use Rattle.std.specs.Prelude.{ℕ, ◌≡◌, ◌+◌, ◌-◌, ◌≤◌, ltb};
 ghost use Rattle.format.specs.Extents.{top};
@@ -23,6 +23,19 @@ pub trait Counter: Copy {
     // Internal: whether that is more than 64 bits hold.
     fn passes_top(self, len: u64) -> bool
         ensures { result ≡ ltb top (number self + len) };
+}
+
+// Internal: a counter of a kind that another crate declares. By its number it is a `Counter`.
+pub trait OwnCounter: Copy {
+    ghost number: { Self → ℕ };
+
+    // Internal: the number that it stands at.
+    fn to_number(self) -> u64
+        ensures { result ≡ number self };
+
+    // Internal: the counter that stands at a number.
+    fn at_number(n: u64) -> Self
+        ensures { number result ≡ n };
 }
 
 impl<C: Numbered> Counter for C {

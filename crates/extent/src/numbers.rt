@@ -1,6 +1,8 @@
-// The number that a counter stands at. The module is private: outside this crate no call leads from a counter to a number and back.
+// The number that a counter stands at. The module is private: whoever makes an offset of a position outside this crate has to write
+// `Physical(..)`.
 ghost use Rattle.std.specs.Prelude.{ℕ, ◌≡◌};
 
+use crate::counters::OwnCounter;
 use format::{Logical, Physical};
 
 // A counter of one kind, by its number.
@@ -37,5 +39,18 @@ impl Numbered for Physical {
 
     fn at_number(n: u64) -> Physical {
         Physical(n)
+    }
+}
+
+// A counter of another crate says itself at which number it stands.
+impl<C: OwnCounter> Numbered for C {
+    ghost stands_at = { C.number };
+
+    fn to_number(self) -> u64 {
+        OwnCounter::to_number(self)
+    }
+
+    fn at_number(n: u64) -> C {
+        <C as OwnCounter>::at_number(n)
     }
 }

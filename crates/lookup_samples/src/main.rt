@@ -2,6 +2,9 @@
 // at blocks with a text that is not UTF-8.
 #![tactic(auto)]
 
+#[cfg(test)]
+mod own_counter;
+
 use format::{Logical, Physical};
 use lookup::Position;
 use printing::{load, print_bytes};
