@@ -1,5 +1,5 @@
-// The number that a counter stands at. The module is private: whoever makes an offset of a position outside this crate has to write
-// `Physical(..)`.
+// The number that a counter stands at. The module is private: with both calls in reach, code that names neither kind could make an
+// offset of a position.
 ghost use Rattle.std.specs.Prelude.{ℕ, ◌≡◌};
 
 use crate::counters::OwnCounter;
